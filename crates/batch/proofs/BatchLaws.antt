@@ -1,4 +1,5 @@
 -- Lemmas about the branches of the batch functions.
+use Rattle.std.specs.Prelude.{Result, Ok, Err, ⊤}
 use mathlib.Core.Path.{◌≡◌, refl, sym, ap, ◌∙◌}
 use mathlib.Core.Bool.{Bool, true, false, not, cond, ◌&&◌}
 use mathlib.Core.List.{List, [], ◌∷◌, ◌++◌, append_assoc}
@@ -13,9 +14,6 @@ use Rattle.text.proofs.BoolLaws.{known_true, known_false, and_l, and_r}
 use Rattle.text_list.specs.Places.{in_store, text_at}
 use Rattle.refusal.specs.declared.Refusal.{Refusal}
 use Rattle.refusal.specs.declared.Refusal.TheVariants.{TooLong, TooMany, NoRoom}
-use Rattle.refusal.specs.declared.Validation.{Validation}
-use Rattle.refusal.specs.declared.Validation.TheVariants.{Passed, Refused}
-use Rattle.refusal.specs.declared.Reply.{Reply}
 use Rattle.refusal.specs.Outcome.{Outcome, path, refused, outcome_reply, outcome_buffer}
 use Rattle.ffi_values.specs.Code.{reply_code}
 use Rattle.validate.specs.Validate.{lent_list, validate_call}
@@ -51,42 +49,44 @@ module _ (n spots bytes replies : ℕ) where
   unfolding batch_fits
   room_replies h k = rw (le-leb (2 * n) spots (omega arith), le-leb (255 * n) bytes (omega arith))
 
+pub ruleset rooms = (room_spots, room_bytes, room_replies)
+
 -- The decision of `validate_batch` on its two tests.
-decided_short : (a b : Bool) → a ≡ true → b ≡ false → Refused NoRoom ≡ cond a (cond b Passed (Refused NoRoom)) (Refused TooMany)
+decided_short : (a b : Bool) → a ≡ true → b ≡ false → ◌≡◌ {A = Result ⊤ Refusal} (Err NoRoom) (cond a (cond b (Ok tt) (Err NoRoom)) (Err TooMany))
 decided_short a b x y = rw (x, y)
 
-decided_passed : (a b : Bool) → a ≡ true → b ≡ true → Passed ≡ cond a (cond b Passed (Refused NoRoom)) (Refused TooMany)
+decided_passed : (a b : Bool) → a ≡ true → b ≡ true → ◌≡◌ {A = Result ⊤ Refusal} (Ok tt) (cond a (cond b (Ok tt) (Err NoRoom)) (Err TooMany))
 decided_passed a b x y = rw (x, y)
 
 -- `validate_batch`
-module _ (list : Validation) (n spots bytes replies : ℕ) where
-  pub batch_refused : (x : Refusal) → list ≡ Refused x → Refused x ≡ validate_batch list n spots bytes replies
+module _ (list : Result ⊤ Refusal) (n spots bytes replies : ℕ) where
+  pub batch_refused : (x : Refusal) → list ≡ Err x → Err x ≡ validate_batch list n spots bytes replies
   unfolding validate_batch
   batch_refused x h = rw h
 
-  pub batch_beyond : list ≡ Passed → spots / 2 < n → Refused TooMany ≡ validate_batch list n spots bytes replies
+  pub batch_beyond : list ≡ Ok tt → spots / 2 < n → Err TooMany ≡ validate_batch list n spots bytes replies
   unfolding validate_batch
   batch_beyond h l = rw (h, lt-leb (2 * n) spots (omega arith))
 
-  module _ (h : list ≡ Passed) (l : n ≤ spots / 2) (b : Bool) (k : b ≡ batch_fits n spots bytes replies) where
-    pub batch_short : not b ≡ true → Refused NoRoom ≡ validate_batch list n spots bytes replies
+  module _ (h : list ≡ Ok tt) (l : n ≤ spots / 2) (b : Bool) (k : b ≡ batch_fits n spots bytes replies) where
+    pub batch_short : not b ≡ true → Err NoRoom ≡ validate_batch list n spots bytes replies
     unfolding validate_batch
     batch_short f = rw h (decided_short (leb (2 * n) spots) (batch_fits n spots bytes replies) (le-leb (2 * n) spots (omega arith)) (known_false k f))
 
-    pub batch_passed : not b ≡ false → Passed ≡ validate_batch list n spots bytes replies
+    pub batch_passed : not b ≡ false → (Ok tt) ≡ validate_batch list n spots bytes replies
     unfolding validate_batch
     batch_passed f = rw h (decided_passed (leb (2 * n) spots) (batch_fits n spots bytes replies) (le-leb (2 * n) spots (omega arith)) (known_true k f))
 
 -- A batch that passes has large enough buffers.
-pub batch_has_room : (list : Validation) (n spots bytes replies : ℕ) → validate_batch list n spots bytes replies ≡ Passed → batch_fits n spots bytes replies ≡ true
+pub batch_has_room : (list : Result ⊤ Refusal) (n spots bytes replies : ℕ) → validate_batch list n spots bytes replies ≡ Ok tt → batch_fits n spots bytes replies ≡ true
 unfolding validate_batch
-batch_has_room Passed n spots bytes replies h = by-spots (leb (2 * n) spots) (batch_fits n spots bytes replies) h
+batch_has_room (Ok tt) n spots bytes replies h = by-spots (leb (2 * n) spots) (batch_fits n spots bytes replies) h
   where
-    by-spots : (a b : Bool) → cond a (cond b Passed (Refused NoRoom)) (Refused TooMany) ≡ Passed → b ≡ true
+    by-spots : (a b : Bool) → ◌≡◌ {A = Result ⊤ Refusal} (cond a (cond b (Ok tt) (Err NoRoom)) (Err TooMany)) (Ok tt) → b ≡ true
     by-spots true true e = refl
     by-spots true false e = absurd (never NoRoom e)
     by-spots false b e = absurd (never TooMany e)
-batch_has_room (Refused x) n spots bytes replies h = absurd (never x h)
+batch_has_room (Err x) n spots bytes replies h = absurd (never x h)
 
 -- `is_inside`
 module _ (texts : Text) (spots : List ℕ) (i : ℕ) where
@@ -107,8 +107,10 @@ module _ (texts : Text) (spots : List ℕ) (i : ℕ) where
           let z : length texts - get_or spots (2 * i) 0 < get_or spots (2 * i + 1) 0 = leb-false (get_or spots (2 * i + 1) 0) (length texts - get_or spots (2 * i) 0) e in
           sym (lt-leb (get_or spots (2 * i) 0 + get_or spots (2 * i + 1) 0) (length texts) (omega (arith, z)))
 
+pub ruleset insides = (inside_start, inside_rest)
+
 -- `map_one`
-module _ (list : Validation) (by : Mapper) (store : Text) (places legs : List ℕ) (room : ℕ) (p : Text) where
+module _ (list : Result ⊤ Refusal) (by : Mapper) (store : Text) (places legs : List ℕ) (room : ℕ) (p : Text) where
   pub by_map : (f : MapFunction) (direction : Direction) → by ≡ Map f direction → map_path_by list by store places legs room p ≡ after_list_validated list direction store places f p room
   unfolding map_path_by
   by_map f direction h = rw h
@@ -118,7 +120,7 @@ module _ (list : Validation) (by : Mapper) (store : Text) (places legs : List �
   by_route n home h = rw h
 
 -- No path made has more than 255 bytes.
-short_by : (list : Validation) (by : Mapper) (store : Text) (places legs : List ℕ) (room : ℕ) (p : Text) → Short (map_path_by list by store places legs room p)
+short_by : (list : Result ⊤ Refusal) (by : Mapper) (store : Text) (places legs : List ℕ) (room : ℕ) (p : Text) → Short (map_path_by list by store places legs room p)
 unfolding map_path_by
 short_by list (Map f direction) store places legs room p = short_after list direction store places f p room
 short_by list (Route n home) store places legs room p = short-route list home (lent_route store places legs n) p room
@@ -128,7 +130,7 @@ unfolding call_at_spot
 short_spotted call s texts spots i = short_cond (in_store texts spots i) (call (text_at texts spots i)) (refused TooLong) (s (text_at texts spots i)) (short_refused TooLong)
 
 -- `map_spot`
-module _ (list : Validation) (by : Mapper) (store : Text) (places legs : List ℕ) (texts : Text) (spots : List ℕ) (room i : ℕ) (b : Bool) (h : b ≡ in_store texts spots i) where
+module _ (list : Result ⊤ Refusal) (by : Mapper) (store : Text) (places legs : List ℕ) (texts : Text) (spots : List ℕ) (room i : ℕ) (b : Bool) (h : b ≡ in_store texts spots i) where
   pub spot_outside : not b ≡ true → map_spot_by list by store places legs texts spots room i ≡ refused TooLong
   unfolding map_spot_by call_at_spot
   spot_outside k = rw (known_false h k)
@@ -140,7 +142,7 @@ module _ (list : Validation) (by : Mapper) (store : Text) (places legs : List �
       ∙ ap (map_path_by list by store places legs room) (sym e)
 
 -- `map_block`: the slice lent for one block is put back into the buffer.
-module _ (list : Validation) (by : Mapper) (store : Text) (places legs : List ℕ) (texts : Text) (spots : List ℕ) (i : ℕ) (out : Text) (h : 255 * i + 255 ≤ length out) where
+module _ (list : Result ⊤ Refusal) (by : Mapper) (store : Text) (places legs : List ℕ) (texts : Text) (spots : List ℕ) (i : ℕ) (out : Text) (h : 255 * i + 255 ≤ length out) where
   abbrev given : ℕ → Outcome
   given room = map_spot_by list by store places legs texts spots room i
 
@@ -155,7 +157,7 @@ module _ (list : Validation) (by : Mapper) (store : Text) (places legs : List �
   unfolding written_block
   block_bytes ys e = rw (e, size, long)
 
-  pub block_reply : (r : Reply) (a : ℕ) → r ≡ outcome_reply (given (length (take (255 * i + 255 - 255 * i) (drop (255 * i) out)))) → a ≡ reply_code r → a ≡ reply_code (outcome_reply (given 255))
+  pub block_reply : (r : Result ℕ Refusal) (a : ℕ) → r ≡ outcome_reply (given (length (take (255 * i + 255 - 255 * i) (drop (255 * i) out)))) → a ≡ reply_code r → a ≡ reply_code (outcome_reply (given 255))
   block_reply r a e f = f ∙ rw (e, size, long)
 
 -- The buffer and the replies after one more iteration.
@@ -222,7 +224,7 @@ module _ (n spots bytes replies : ℕ) (h : batch_fits n spots bytes replies ≡
     room_number = omega (arith, leb-true n replies (and_r (leb (2 * n) spots && leb (255 * n) bytes) (leb n replies) yes_all))
 
 -- One iteration adds one block and one reply.
-module _ (list : Validation) (by : Mapper) (store : Text) (places legs : List ℕ) (texts : Text) (spots : List ℕ) (i : ℕ) where
+module _ (list : Result ⊤ Refusal) (by : Mapper) (store : Text) (places legs : List ℕ) (texts : Text) (spots : List ℕ) (i : ℕ) where
   abbrev o : ℕ → Outcome
   o = map_spot_by list by store places legs texts spots 255
 
@@ -272,12 +274,12 @@ module _ (o o' : ℕ → Outcome) (same : (i : ℕ) → o i ≡ o' i) where
   all_same n out₀ out replies₀ replies w = (w.0 ∙ sym (blocks_same 0 n out₀), w.1 ∙ sym (numbers_same 0 n replies₀))
 
 -- The reply and the buffers of a batch that passes, and of one that is refused.
-pub all_done : (o : ℕ → Outcome) (n : ℕ) (v : Validation) → v ≡ Passed → (out₀ out : Text) (replies₀ replies : List ℕ)
-    → (out ≡ path_buffers o 0 n out₀) × (replies ≡ reply_numbers o 0 n replies₀) → ReturnsBatch v o n Passed out₀ out replies₀ replies
+pub all_done : (o : ℕ → Outcome) (n : ℕ) (v : Result ⊤ Refusal) → v ≡ Ok tt → (out₀ out : Text) (replies₀ replies : List ℕ)
+    → (out ≡ path_buffers o 0 n out₀) × (replies ≡ reply_numbers o 0 n replies₀) → ReturnsBatch v o n (Ok tt) out₀ out replies₀ replies
 unfolding batch_bytes batch_replies
 all_done o n v h out₀ out replies₀ replies w = rw h (refl, (w.0, w.1))
 
-pub all_refused : (o : ℕ → Outcome) (n : ℕ) (v : Validation) (x : Refusal) → v ≡ Refused x → (out : Text) (replies : List ℕ) → ReturnsBatch v o n (Refused x) out out replies replies
+pub all_refused : (o : ℕ → Outcome) (n : ℕ) (v : Result ⊤ Refusal) (x : Refusal) → v ≡ Err x → (out : Text) (replies : List ℕ) → ReturnsBatch v o n (Err x) out out replies replies
 unfolding batch_bytes batch_replies
 all_refused o n v x h out replies = rw h (refl, (refl, refl))
 
@@ -286,25 +288,25 @@ unfolding call_at_spot
 spotted_same f g same texts spots i = rw (same (text_at texts spots i))
 
 -- `map_all`
-pub map_validated : (store : Text) (places : List ℕ) (f : MapFunction) (n : ℕ) (spots : List ℕ) (out : Text) (replies : List ℕ) (list q : Validation)
+pub map_validated : (store : Text) (places : List ℕ) (f : MapFunction) (n : ℕ) (spots : List ℕ) (out : Text) (replies : List ℕ) (list q : Result ⊤ Refusal)
     → list ≡ validate_call (lent_list store places f.count ∷ []) [] [] → q ≡ validate_batch list n (length spots) (length out) (length replies) → validate_map_all store places f n spots out replies ≡ q
 unfolding validate_map_all
-map_validated store places f n spots out replies list q h k = sym (k ∙ ap (λ (a : Validation). validate_batch a n (length spots) (length out) (length replies)) h)
+map_validated store places f n spots out replies list q h k = sym (k ∙ ap (λ (a : Result ⊤ Refusal). validate_batch a n (length spots) (length out) (length replies)) h)
 
-pub map_step : (direction : Direction) (store : Text) (places legs : List ℕ) (f : MapFunction) (texts : Text) (spots : List ℕ) (list : Validation)
+pub map_step : (direction : Direction) (store : Text) (places legs : List ℕ) (f : MapFunction) (texts : Text) (spots : List ℕ) (list : Result ⊤ Refusal)
     → list ≡ validate_call (lent_list store places f.count ∷ []) [] [] → (i : ℕ) → mapped_at direction store places f texts spots i ≡ map_spot_by list (Map f direction) store places legs texts spots 255 i
 unfolding mapped_at map_spot_by map_path_by
 map_step direction store places legs f texts spots list h =
     spotted_same (λ (p : Text). direction_call direction store places f p 255) (λ (p : Text). after_list_validated list direction store places f p 255)
-    (λ p. sym (after_is_call direction store places f p 255) ∙ ap (λ (a : Validation). after_list_validated a direction store places f p 255) (sym h)) texts spots
+    (λ p. sym (after_is_call direction store places f p 255) ∙ ap (λ (a : Result ⊤ Refusal). after_list_validated a direction store places f p 255) (sym h)) texts spots
 
 -- `route_all`
-pub route_validated : (r : LentRoute) (n : ℕ) (spots : List ℕ) (out : Text) (replies : List ℕ) (list q : Validation) → list ≡ validate_route r []
+pub route_validated : (r : LentRoute) (n : ℕ) (spots : List ℕ) (out : Text) (replies : List ℕ) (list q : Result ⊤ Refusal) → list ≡ validate_route r []
     → q ≡ validate_batch list n (length spots) (length out) (length replies) → validate_route_all r n spots out replies ≡ q
 unfolding validate_route_all
-route_validated r n spots out replies list q h k = sym (k ∙ ap (λ (a : Validation). validate_batch a n (length spots) (length out) (length replies)) h)
+route_validated r n spots out replies list q h k = sym (k ∙ ap (λ (a : Result ⊤ Refusal). validate_batch a n (length spots) (length out) (length replies)) h)
 
-module _ (home : Bool) (r : LentRoute) (texts : Text) (spots : List ℕ) (list : Validation) (e : list ≡ validate_route r []) where
+module _ (home : Bool) (r : LentRoute) (texts : Text) (spots : List ℕ) (list : Result ⊤ Refusal) (e : list ≡ validate_route r []) where
   pub route_step : (b : Bool) → b ≡ needs_maps list r.legs r.count → not b ≡ true
       → (i : ℕ) → routed_at home r texts spots i ≡ map_spot_by list (Route r.count home) r.store r.places r.legs texts spots 255 i
   unfolding routed_at map_spot_by map_path_by

@@ -1,12 +1,10 @@
 -- Meaning: Mapping many paths through one map, or over one route, in one call. Path i is the text at entry i of `spots` (its start and its length in
 -- `texts`); its reply is entry i of `replies`, and its path is written to the 255 bytes from offset 255 i.
-use Rattle.std.specs.Prelude.{◌≡◌, ℕ, zero, suc, ◌*◌, ◌≤◌, ◌<◌, Bool, cond, ◌&&◌, List, [], ◌∷◌, ◌++◌, leb, length, get_or, take, drop}
+use Rattle.std.specs.Prelude.{◌≡◌, ℕ, zero, suc, ◌*◌, ◌≤◌, ◌<◌, Bool, cond, ◌&&◌, List, [], ◌∷◌, ◌++◌, leb, length, get_or, take, drop, Result, Ok, Err, ⊤}
 use Rattle.text.specs.Text.{Text}
 use Rattle.text_list.specs.Places.{in_store, text_at}
 use Rattle.refusal.specs.declared.Refusal.{Refusal}
 use Rattle.refusal.specs.declared.Refusal.TheVariants.{TooLong, TooMany, NoRoom}
-use Rattle.refusal.specs.declared.Validation.{Validation}
-use Rattle.refusal.specs.declared.Validation.TheVariants.{Passed, Refused}
 use Rattle.refusal.specs.Refusal.{refused_or}
 use Rattle.refusal.specs.Outcome.{Outcome, refused, outcome_reply, outcome_buffer}
 use Rattle.ffi_values.specs.Code.{reply_code, validation_code}
@@ -51,37 +49,37 @@ batch_fits n spots bytes replies = leb (2 * n) spots && leb (255 * n) bytes && l
 
 -- Validates a batch of n paths, given the result of questions 1 to 4 for the list or the route: then question 4 for the number of paths ("A
 -- count beyond its slice counts as over 64"), then question 5. The questions of each path come after these, path by path.
-unfoldable pub validate_batch : Validation → ℕ → ℕ → ℕ → ℕ → Validation
+unfoldable pub validate_batch : Result ⊤ Refusal → ℕ → ℕ → ℕ → ℕ → Result ⊤ Refusal
 unfolding batch_fits
 validate_batch list n spots bytes replies =
-    refused_or list Refused (cond (leb (2 * n) spots) (cond (batch_fits n spots bytes replies) Passed (Refused NoRoom)) (Refused TooMany))
+    refused_or list Err (cond (leb (2 * n) spots) (cond (batch_fits n spots bytes replies) (Ok tt) (Err NoRoom)) (Err TooMany))
 
 -- The lent buffer after the batch call; unchanged if it was refused.
-unfoldable pub batch_bytes : Validation → (ℕ → Outcome) → ℕ → Text → Text
+unfoldable pub batch_bytes : Result ⊤ Refusal → (ℕ → Outcome) → ℕ → Text → Text
 unfolding path_buffers
 batch_bytes v o n out = refused_or v (λ (x : Refusal). out) (path_buffers o 0 n out)
 
 -- The reply entries after the batch call; unchanged if it was refused.
-unfoldable pub batch_replies : Validation → (ℕ → Outcome) → ℕ → List ℕ → List ℕ
+unfoldable pub batch_replies : Result ⊤ Refusal → (ℕ → Outcome) → ℕ → List ℕ → List ℕ
 unfolding reply_numbers
 batch_replies v o n replies = refused_or v (λ (x : Refusal). replies) (reply_numbers o 0 n replies)
 
 -- A batch call returned what its validation v and the outcomes o of the n single calls say: its reply r, and both lent buffers before and
 -- after the call.
-abbrev pub ReturnsBatch : Validation → (ℕ → Outcome) → ℕ → Validation → Text → Text → List ℕ → List ℕ → Type 0
+abbrev pub ReturnsBatch : Result ⊤ Refusal → (ℕ → Outcome) → ℕ → Result ⊤ Refusal → Text → Text → List ℕ → List ℕ → Type 0
 ReturnsBatch v o n r out out' replies replies' = (r ≡ v) × ((out' ≡ batch_bytes v o n out) × (replies' ≡ batch_replies v o n replies))
 
 -- The same with the reply encoded as one number.
-abbrev pub ReturnsBatchCode : Validation → (ℕ → Outcome) → ℕ → ℕ → Text → Text → List ℕ → List ℕ → Type 0
+abbrev pub ReturnsBatchCode : Result ⊤ Refusal → (ℕ → Outcome) → ℕ → ℕ → Text → Text → List ℕ → List ℕ → Type 0
 ReturnsBatchCode v o n r out out' replies replies' = (r ≡ validation_code v) × ((out' ≡ batch_bytes v o n out) × (replies' ≡ batch_replies v o n replies))
 
 -- Questions 1 to 5 of mapping n paths through a map.
-unfoldable pub validate_map_all : Text → List ℕ → MapFunction → ℕ → List ℕ → Text → List ℕ → Validation
+unfoldable pub validate_map_all : Text → List ℕ → MapFunction → ℕ → List ℕ → Text → List ℕ → Result ⊤ Refusal
 unfolding validate_call validate_batch
 validate_map_all store places f n spots out replies = validate_batch (validate_call (list_of store places f ∷ []) [] []) n (length spots) (length out) (length replies)
 
 -- Questions 1 to 5 of mapping n paths over a route.
-unfoldable pub validate_route_all : LentRoute → ℕ → List ℕ → Text → List ℕ → Validation
+unfoldable pub validate_route_all : LentRoute → ℕ → List ℕ → Text → List ℕ → Result ⊤ Refusal
 unfolding validate_route validate_batch
 validate_route_all r n spots out replies = validate_batch (validate_route r []) n (length spots) (length out) (length replies)
 

@@ -10,52 +10,45 @@ ghost use Rattle.route_legs.specs.LentRoute.{lent_route, validate_route};
 ghost use Rattle.batch.specs.Batch.{mapped_at, routed_at, path_buffers, reply_numbers, batch_fits, validate_batch, validate_map_all, validate_route_all, ReturnsBatch};
 ghost use Rattle.batch.specs.BatchStep.{map_path_by, map_spot_by, written_block};
 
+use refusal::Refusal;
+
 // Returns whether the lent buffers suffice for n paths (question 5).
+#[tactic(auto, using(crate::proofs::BatchLaws::rooms))]
 fn batch_fits(n: usize, spots: usize, bytes: usize, replies: usize) -> bool
     ensures { result ≡ batch_fits n spots bytes replies }
 {
-    if spots / 2 < n {
-        return false;
-    }
-    if bytes / 255 < n {
-        return false;
-    }
-    n <= replies
+    n <= spots / 2 && n <= bytes / 255 && n <= replies
 }
 
 // Validates a batch of n paths, given the result of validating the list or the route (questions 4 and 5).
 fn validate_batch(
-    list: refusal::Validation,
+    list: Result<(), Refusal>,
     n: usize,
     spots: usize,
     bytes: usize,
     replies: usize,
-) -> refusal::Validation
+) -> Result<(), Refusal>
     ensures { result ≡ validate_batch list n spots bytes replies }
 {
-    if let refusal::Validation::Refused(x) = list {
-        return refusal::Validation::Refused(x);
-    }
+    list?;
     if spots / 2 < n {
-        return refusal::Validation::Refused(refusal::Refusal::TooMany);
+        return Err(Refusal::TooMany);
     }
     if !batch_fits(n, spots, bytes, replies) {
-        return refusal::Validation::Refused(refusal::Refusal::NoRoom);
+        return Err(Refusal::NoRoom);
     }
-    refusal::Validation::Passed
+    Ok(())
 }
 
 // Returns whether the place of text i lies within `texts`.
+#[tactic(auto, using(crate::proofs::BatchLaws::insides))]
 fn is_inside(texts: &[u8], spots: &[usize], i: usize) -> bool
     requires { 2 * i + 2 ≤ length spots.now }
     ensures { result ≡ in_store texts.now spots.now i }
 {
     let start = spots[2 * i];
     let n = spots[2 * i + 1];
-    if texts.len() < start {
-        return false;
-    }
-    n <= texts.len() - start
+    start <= texts.len() && n <= texts.len() - start
 }
 
 // What the batch maps the paths through: a map in one of its three directions, or a route of maps with its
@@ -68,14 +61,14 @@ enum Mapper {
 
 // Maps one path.
 fn map_one(
-    list: refusal::Validation,
+    list: Result<(), Refusal>,
     by: Mapper,
     store: &[u8],
     places: &[usize],
     legs: &[usize],
     path: &[u8],
     out: &mut [u8],
-) -> refusal::Reply
+) -> Result<usize, Refusal>
     ensures { ReturnsPath (map_path_by list by store.now places.now legs.now
         (length out.old) path.now) result out.old out.new }
 {
@@ -91,7 +84,7 @@ fn map_one(
 
 // Maps path i.
 fn map_spot(
-    list: refusal::Validation,
+    list: Result<(), Refusal>,
     by: Mapper,
     store: &[u8],
     places: &[usize],
@@ -100,14 +93,14 @@ fn map_spot(
     spots: &[usize],
     i: usize,
     out: &mut [u8],
-) -> refusal::Reply
+) -> Result<usize, Refusal>
     requires { 2 * i + 2 ≤ length spots.now }
     ensures { ReturnsPath (map_spot_by list by store.now places.now legs.now
         texts.now spots.now (length out.old) i) result out.old
         out.new }
 {
     if !is_inside(texts, spots, i) {
-        return refusal::Reply::Refused(refusal::Refusal::TooLong);
+        return Err(Refusal::TooLong);
     }
     let path = text_list::text_at(texts, spots, i);
     map_one(list, by, store, places, legs, path, out)
@@ -115,7 +108,7 @@ fn map_spot(
 
 // Maps path i into block i and stores its reply.
 fn map_block(
-    list: refusal::Validation,
+    list: Result<(), Refusal>,
     by: Mapper,
     store: &[u8],
     places: &[usize],
@@ -154,7 +147,7 @@ fn map_block(
 
 // Maps the n paths, each into its block, and stores their replies.
 fn map_each(
-    list: refusal::Validation,
+    list: Result<(), Refusal>,
     by: Mapper,
     store: &[u8],
     places: &[usize],
@@ -173,10 +166,8 @@ fn map_each(
         (map_spot_by list by store.now places.now legs.now texts.now
         spots.now 255) 0 n replies.old }
 {
-    let mut i = 0;
-    while i < n {
+    for i in 0..n {
         map_block(list, by, store, places, legs, texts, spots, i, out, replies);
-        i += 1;
     }
 }
 
@@ -192,27 +183,24 @@ pub fn map_all(
     n: usize,
     out: &mut [u8],
     replies: &mut [usize],
-) -> refusal::Validation
+) -> Result<(), Refusal>
     ensures { ReturnsBatch (validate_map_all store.now places.now map n spots.now
         out.old replies.old)
         (mapped_at direction store.now places.now map texts.now spots.now) n
         result out.old out.new replies.old replies.new }
 {
     let list = validate::validate_list(store, places, map.count);
-    let q = validate_batch(list, n, spots.len(), out.len(), replies.len());
-    if let refusal::Validation::Refused(x) = q {
-        return refusal::Validation::Refused(x);
-    }
+    validate_batch(list, n, spots.len(), out.len(), replies.len())?;
     let by = Mapper::Map(map, direction);
     map_each(
         list, by, store, places, places, texts, spots, n, out, replies,
     );
-    refusal::Validation::Passed
+    Ok(())
 }
 
 // Maps the n paths over a validated route that has a relocate list: prepares the maps of the legs first.
 fn route_prepared(
-    list: refusal::Validation,
+    list: Result<(), Refusal>,
     store: &[u8],
     places: &[usize],
     legs: &[usize],
@@ -244,7 +232,7 @@ fn route_prepared(
 
 // Maps the n paths over a route whose validation returned `list`.
 fn route_each(
-    list: refusal::Validation,
+    list: Result<(), Refusal>,
     store: &[u8],
     places: &[usize],
     legs: &[usize],
@@ -288,19 +276,16 @@ pub fn route_all(
     n: usize,
     out: &mut [u8],
     replies: &mut [usize],
-) -> refusal::Validation
+) -> Result<(), Refusal>
     ensures { let route = lent_route store.now places.now legs.now count
         in ReturnsBatch (validate_route_all route n spots.now out.old replies.old)
         (routed_at home route texts.now spots.now) n result out.old out.new
         replies.old replies.new }
 {
     let list = route_legs::validate_legs(store, places, legs, count);
-    let q = validate_batch(list, n, spots.len(), out.len(), replies.len());
-    if let refusal::Validation::Refused(x) = q {
-        return refusal::Validation::Refused(x);
-    }
+    validate_batch(list, n, spots.len(), out.len(), replies.len())?;
     route_each(
         list, store, places, legs, count, home, texts, spots, n, out, replies,
     );
-    refusal::Validation::Passed
+    Ok(())
 }

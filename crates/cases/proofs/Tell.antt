@@ -1,5 +1,6 @@
 -- Telling answers apart: a function to numbers that gives two answers different numbers shows that they differ, and numbers are compared by
 -- computing.
+use Rattle.std.specs.Prelude.{Result, Ok, Err, ⊤}
 use mathlib.Core.Path.{◌≡◌, sym, ap, ◌∙◌}
 use mathlib.Core.Logic.{◌≢◌}
 use mathlib.Core.Bool.{Bool, true, false, true≢false}
@@ -11,16 +12,10 @@ use Rattle.text.proofs.BoolLaws.{eqb_self}
 use Rattle.layer_offset.specs.declared.LayerOffset.{LayerOffset}
 use Rattle.layer_offset.specs.Number.{bit_pattern}
 use Rattle.refusal.specs.Refusal.{refusal_number}
-use Rattle.refusal.specs.declared.Validation.{Validation}
-use Rattle.refusal.specs.declared.Validation.TheVariants.{Passed, Refused as RefusedValidation}
-use Rattle.refusal.specs.declared.Reply.{Reply}
-use Rattle.refusal.specs.declared.Reply.TheVariants.{Written, Refused as RefusedReply}
 use Rattle.refusal.specs.Outcome.{Outcome, path, refused}
-use Rattle.path.specs.declared.Test.{Test}
-use Rattle.path.specs.declared.Test.TheVariants.{Holds, Refused as RefusedTest}
-use Rattle.path.specs.declared.Count.{Count}
-use Rattle.path.specs.declared.Count.TheVariants.{Counted, Refused as RefusedCount}
 use Rattle.relocate_chain.specs.Chain.{Chained, chained, stopped}
+use Rattle.refusal.specs.declared.Refusal.{Refusal}
+use Rattle.path_prefix.specs.declared.Elements.{Elements}
 
 -- Values to which a function gives different numbers are not equal.
 pub apart : {A : Type 0} (f : A → ℕ) {x y : A} → eqb (f x) (f y) ≡ false → x ≢ y
@@ -36,22 +31,22 @@ bool_number true = 1
 bool_number false = 0
 
 -- The numbers of replies; refusals have numbers below 16.
-unfoldable pub validation_number : Validation → ℕ
-validation_number Passed = 0
-validation_number (RefusedValidation x) = refusal_number x
+unfoldable pub validation_number : Result ⊤ Refusal → ℕ
+validation_number (Ok tt) = 0
+validation_number (Err x) = refusal_number x
 
-unfoldable pub test_number : Test → ℕ
+unfoldable pub test_number : Result Bool Refusal → ℕ
 unfolding bool_number
-test_number (Holds b) = 16 + bool_number b
-test_number (RefusedTest x) = refusal_number x
+test_number (Ok b) = 16 + bool_number b
+test_number (Err x) = refusal_number x
 
-unfoldable pub count_number : Count → ℕ
-count_number (Counted n) = 16 + n.0
-count_number (RefusedCount x) = refusal_number x
+unfoldable pub count_number : Result Elements Refusal → ℕ
+count_number (Ok n) = 16 + n.0
+count_number (Err x) = refusal_number x
 
-unfoldable pub reply_number : Reply → ℕ
-reply_number (Written n) = 16 + n
-reply_number (RefusedReply x) = refusal_number x
+unfoldable pub reply_number : Result ℕ Refusal → ℕ
+reply_number (Ok n) = 16 + n
+reply_number (Err x) = refusal_number x
 
 unfoldable pub outcome_number : Outcome → ℕ
 unfolding text_number

@@ -1,4 +1,5 @@
 -- Every wrong answer of a call on maps differs from the right one, by computing both.
+use Rattle.std.specs.Prelude.{Result, Ok, Err}
 use mathlib.Core.Path.{refl}
 use mathlib.Core.List.{List, [], ◌∷◌}
 use Prim.Native.Nat.{ℕ, ◌+◌, ◌*◌}
@@ -8,8 +9,6 @@ use Rattle.pair_list.specs.Places.{pairs_in}
 use Rattle.refusal.specs.Refusal.{refusal_number}
 use Rattle.path_prefix.specs.Elements.{count_elements}
 use Rattle.map_function.specs.declared.MapFunction.{MapFunction}
-use Rattle.map_function.specs.declared.MapReply.{MapReply}
-use Rattle.map_function.specs.declared.MapReply.TheVariants.{Made, Refused}
 use Rattle.map_function.specs.MapFunction.{is_null, path_is_identity, is_identity_map}
 use Rattle.map_function.specs.MapOutcome.{MapOutcome, map, refused}
 use Rattle.map_new.specs.Calls.{map_new_call, from_pair_call, from_pair_identity_call}
@@ -23,6 +22,7 @@ use Rattle.ffi_values.specs.MapCode.{with_time_offset_call}
 use Rattle.cases.specs.Lent.{store_of, places_of}
 use Rattle.cases.specs.WrongMaps.{WrongMaps}
 use Rattle.cases.proofs.Tell.{apart, text_number, bool_number, test_number, outcome_number, time_number}
+use Rattle.refusal.specs.declared.Refusal.{Refusal}
 
 -- A number for a list of pairs: the ends of its pairs, each after the number of the rest.
 unfoldable pairs_number : List Pair → ℕ
@@ -40,10 +40,10 @@ unfolding bool_number pairs_number time_number
 map_outcome_number (map m time) = 16 + bool_number m.mark + 2 * (time_number time + 680564733841876926926749214863536422912 * pairs_number m.pairs)
 map_outcome_number (refused x) = refusal_number x
 
-unfoldable map_reply_number : MapReply → ℕ
+unfoldable map_reply_number : Result MapFunction Refusal → ℕ
 unfolding header_number
-map_reply_number (Made f) = 16 + header_number f
-map_reply_number (Refused x) = refusal_number x
+map_reply_number (Ok f) = 16 + header_number f
+map_reply_number (Err x) = refusal_number x
 
 pub wrong_maps : WrongMaps
 unfolding count_elements store_of places_of pairs_in map_new_call from_pair_call from_pair_identity_call inverse_call with_root_identity_call dropping_source_call is_noop_call compose_call implied_class_call

@@ -1,35 +1,31 @@
 -- Every wrong answer of a call that tells the rest of a path differs from the right one, by computing both.
+use Rattle.std.specs.Prelude.{Result, Ok, Err, Option, Some, None}
 use mathlib.Core.Path.{refl}
 use Prim.Native.Nat.{ℕ, suc, ◌+◌, ◌*◌}
 use Rattle.refusal.specs.Refusal.{refusal_number}
 use Rattle.path_prefix.specs.Elements.{count_elements}
 use Rattle.pair_list.specs.Places.{pairs_in}
-use Rattle.path.specs.declared.RestTest.{RestTest}
-use Rattle.path.specs.declared.RestTest.TheVariants.{Tested, Refused as RefusedRestTest}
 use Rattle.path.specs.Calls.{rest_start_call}
-use Rattle.path_rest.specs.declared.Rest.{Rest}
-use Rattle.path_rest.specs.declared.Rest.TheVariants.{From, Nothing}
-use Rattle.path_rest.specs.declared.Carried.{Carried}
-use Rattle.path_rest.specs.declared.Carried.TheVariants.{Written, Refused}
 use Rattle.route_spec.specs.Leg.{outward, homeward}
 use Rattle.cases.specs.Lent.{store_of, places_of}
 use Rattle.cases.specs.WrongRests.{source_carried, target_carried, translated_carried, routed_carried, carried_text, WrongRests}
 use Rattle.cases.proofs.Tell.{apart, text_number}
+use Rattle.refusal.specs.declared.Refusal.{Refusal}
 
 -- The numbers of a rest, of the reply of `rest_start`, and of a reply with a rest.
-unfoldable rest_number : Rest → ℕ
-rest_number (From n) = suc n
-rest_number Nothing = 0
+unfoldable rest_number : Option ℕ → ℕ
+rest_number (Some n) = suc n
+rest_number None = 0
 
-unfoldable rest_test_number : RestTest → ℕ
+unfoldable rest_test_number : Result (Option ℕ) Refusal → ℕ
 unfolding rest_number
-rest_test_number (Tested rest) = 16 + rest_number rest
-rest_test_number (RefusedRestTest x) = refusal_number x
+rest_test_number (Ok rest) = 16 + rest_number rest
+rest_test_number (Err x) = refusal_number x
 
-unfoldable carried_number : Carried → ℕ
+unfoldable carried_number : Result (ℕ × Option ℕ) Refusal → ℕ
 unfolding rest_number
-carried_number (Written n rest) = 16 + n + 256 * rest_number rest
-carried_number (Refused x) = refusal_number x
+carried_number (Ok (n, rest)) = 16 + n + 256 * rest_number rest
+carried_number (Err x) = refusal_number x
 
 pub wrong_rests : WrongRests
 unfolding count_elements store_of places_of pairs_in outward homeward rest_start_call source_carried target_carried translated_carried routed_carried carried_text

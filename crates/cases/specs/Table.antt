@@ -1,7 +1,6 @@
 -- Meaning: The table of cases of the requirements: every row marked P, as a statement about the definitions. proofs/Table.antt proves the whole
 -- table.
-use Rattle.std.specs.Prelude.{◌≡◌, List, [], ◌∷◌, ℕ, length}
-use Rattle.std.proofs.Math.Option.{none}
+use Rattle.std.specs.Prelude.{◌≡◌, List, [], ◌∷◌, ℕ, length, None}
 use Prim.Native.String.{String}
 use Rattle.text.specs.Text.{bytes}
 use Rattle.refusal.specs.declared.Refusal.TheVariants.{NoPath}
@@ -86,7 +85,7 @@ pub record Table : Type 0 where
   pub conflicts : status_bytes_of conflicting ≡ 3 ∷ 3 ∷ 3 ∷ []
   -- `/R/a/b`→`/R/c`, `/R/c/d`→`/R/a`: 0, 0; chaining `/R/a/b/d/b/d` ends at `/R/a/b/d`, 2 steps
   pub active : status_bytes_of rotating ≡ 0 ∷ 0 ∷ []
-  pub chaining : chain none rotating (bytes "/R/a/b/d/b/d") ≡ chained (bytes "/R/a/b/d") 2
+  pub chaining : chain None rotating (bytes "/R/a/b/d/b/d") ≡ chained (bytes "/R/a/b/d") 2
   -- inner `/A`→`/X`, `/A/B`→`/Y`, outer `/X/B/C`→`/Z`, `/Y`→`/W`: composed takes `/A/B/C` to `/Z`; one after the other gives `/W/C`
   pub composed : map_out (compose outer inner) "/A/B/C" ≡ path (bytes "/Z")
   pub inner_out : map_out inner "/A/B/C" ≡ path (bytes "/Y/C")
@@ -96,7 +95,7 @@ pub record Table : Type 0 where
 -- "`max_by_key` and `best_prefix` both take the last", `later` covers `best_prefix`; the two first fields here cover `max_by_key`, in
 -- chaining and in `deepen_to`. The other two cover the fourth: "Skipping an empty source in `deepen_to`; only `best_prefix` skips it."
 pub record Readings : Type 0 where
-  pub later_chained : chain none (string_pair "/R/a" "/R/b" ∷ string_pair "/R/a" "/R/c" ∷ []) (bytes "/R/a/d") ≡ chained (bytes "/R/c/d") 1
+  pub later_chained : chain None (string_pair "/R/a" "/R/b" ∷ string_pair "/R/a" "/R/c" ∷ []) (bytes "/R/a/d") ≡ chained (bytes "/R/c/d") 1
   pub later_deepened : deepen_to (unmarked_map (string_pair "/A" "/X" ∷ string_pair "/A" "/Y" ∷ [])) (bytes "/A/b") ≡ unmarked_map (string_pair "/A/b" "/Y/b" ∷ [])
   pub deepened : deepen_to (unmarked_map (string_pair "" "/X" ∷ [])) (bytes "/A") ≡ unmarked_map (string_pair "/A" "/X/A" ∷ [])
   pub skipped : map_out (unmarked_map (string_pair "" "/X" ∷ [])) "/A" ≡ refused NoPath

@@ -1,10 +1,9 @@
 -- Meaning: Worked examples of paths with a target in brackets: the parent, the prim path, the numbers of elements and names, the stripped path, the
 -- target itself, and the lengths of the ancestors. proofs/TargetTable.antt proves them by computing.
-use Rattle.std.specs.Prelude.{ℕ, ◌≡◌, List, [], ◌∷◌}
+use Rattle.std.specs.Prelude.{ℕ, ◌≡◌, List, [], ◌∷◌, Ok}
 use Prim.Native.String.{String}
 use Rattle.text.specs.Text.{bytes}
 use Rattle.refusal.specs.Outcome.{path}
-use Rattle.path.specs.declared.Count.TheVariants.{Counted}
 use Rattle.path.specs.Calls.{element_count_call, prim_element_count_call}
 use Rattle.path_parts.specs.Parent.{ancestor_lens}
 use Rattle.path_derive.specs.Calls.{parent_call, prim_path_call, strip_call}
@@ -14,8 +13,8 @@ use Rattle.path_target.specs.Calls.{embedded_target_call}
 pub record Answers (p parent prim strip target : String) (elements names : ℕ) (lengths : List ℕ) : Type 0 where
   pub parent_is : parent_call (bytes p) 255 ≡ path (bytes parent)
   pub prim_is : prim_path_call (bytes p) 255 ≡ path (bytes prim)
-  pub elements_are : element_count_call (bytes p) ≡ Counted (record { 0 = elements })
-  pub names_are : prim_element_count_call (bytes p) ≡ Counted (record { 0 = names })
+  pub elements_are : element_count_call (bytes p) ≡ Ok (record { 0 = elements })
+  pub names_are : prim_element_count_call (bytes p) ≡ Ok (record { 0 = names })
   pub strip_is : strip_call (bytes p) 255 ≡ path (bytes strip)
   pub target_is : embedded_target_call (bytes p) 255 ≡ path (bytes target)
   pub lengths_are : ancestor_lens (bytes p) ≡ lengths

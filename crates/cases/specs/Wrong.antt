@@ -1,8 +1,7 @@
 -- Meaning: Requirements: "It must be shown that these fail". Each wrong tool is a function beside the definition that it would have to meet, with an
 -- input for which the two differ; proofs/Wrong.antt proves that they differ. Demand 2 requires the results that the definitions yield,
 -- demand 3 the round trip, whose two halves are those of crates/route_spec/specs/Route.antt.
-use Rattle.std.specs.Prelude.{◌≢◌, List, [], ◌∷◌, ◌++◌, ℕ, replicate}
-use Rattle.std.proofs.Math.Option.{Option, none}
+use Rattle.std.specs.Prelude.{◌≢◌, List, [], ◌∷◌, ◌++◌, ℕ, replicate, Option, None}
 use Rattle.text.specs.Text.{Text, bytes}
 use Rattle.refusal.specs.declared.Refusal.TheVariants.{NoRoom, NoPath}
 use Rattle.refusal.specs.Outcome.{Outcome, path, refused, outcome_buffer}
@@ -87,7 +86,7 @@ pub record WrongTools : Type 0 where
   -- Mapping over the first leg only fails demand 2, leg by leg.
   pub first_only : DiffersAt (first_leg_only outward a_to_b_to_c) (fold_legs outward a_to_b_to_c) (bytes "/A/D")
   -- An invented step count fails the chaining definition, whatever the count is, unless it is the right one.
-  pub invented_steps_lem : (k : ℕ) → k ≢ 2 → DiffersAt (invented_steps k none rotating) (chain none rotating) (bytes "/R/a/b/d/b/d")
+  pub invented_steps_lem : (k : ℕ) → k ≢ 2 → DiffersAt (invented_steps k None rotating) (chain None rotating) (bytes "/R/a/b/d/b/d")
   -- An invented answer to 07 fails its definition from the input, whatever the answer is, unless it is the right one.
   pub invented_count : (answer : Text) → answer ≢ bytes "870000000001\n" → output (bytes "052F41\n07\n") ≢ bytes "85002F41\n" ++ answer
   -- Always refusing with 5 fails question 5: 255 bytes are enough.

@@ -1,13 +1,11 @@
 -- Meaning: Wrong answers of the calls on maps. Each field names an input and an answer that the definition excludes; the comment says which mistake would
 -- give that answer.
-use Rattle.std.specs.Prelude.{◌≢◌, true, false, List, [], ◌∷◌, replicate}
+use Rattle.std.specs.Prelude.{◌≢◌, true, false, List, [], ◌∷◌, replicate, Ok}
 use Rattle.text.specs.Text.{bytes}
 use Rattle.layer_offset.specs.Offset.{identity_offset}
 use Rattle.pair_list.specs.Pair.{Pair}
 use Rattle.refusal.specs.declared.Refusal.TheVariants.{Illegal, NoRoom, NoPath}
 use Rattle.refusal.specs.Outcome.{path, refused}
-use Rattle.path.specs.declared.Test.TheVariants.{Holds}
-use Rattle.map_function.specs.declared.MapReply.TheVariants.{Made}
 use Rattle.map_function.specs.MapFunction.{is_null, path_is_identity, is_identity_map}
 use Rattle.map_function.specs.MapOutcome.{map, refused as refusedMap, map_function}
 use Rattle.map_spec.specs.New.{identity_map, null_map}
@@ -74,9 +72,9 @@ pub record WrongMaps : Type 0 where
   pub dropped_by_target : dropping_source_call (store_of a_and_c_list) (places_of a_and_c_list) (unmarked_header a_and_c_list) (bytes "/A") bytes_lent places_lent ≢ map (unmarked_map (string_pair "/A" "/X" ∷ [])) identity_offset
   pub dropped_nothing : dropping_source_call (store_of a_and_c_list) (places_of a_and_c_list) (unmarked_header a_and_c_list) (bytes "/A") bytes_lent places_lent ≢ map (unmarked_map a_and_c_list) identity_offset
   -- `is_noop`: a map that moves a path; the null map; a map that moves times.
-  pub noop_moves : is_noop_call (store_of a_to_b_list) (places_of a_to_b_list) (unmarked_header a_to_b_list) ≢ Holds true
-  pub noop_null : is_noop_call [] [] (unmarked_header []) ≢ Holds true
-  pub noop_moves_time : is_noop_call [] [] (header [] true five_two) ≢ Holds true
+  pub noop_moves : is_noop_call (store_of a_to_b_list) (places_of a_to_b_list) (unmarked_header a_to_b_list) ≢ Ok true
+  pub noop_null : is_noop_call [] [] (unmarked_header []) ≢ Ok true
+  pub noop_moves_time : is_noop_call [] [] (header [] true five_two) ≢ Ok true
   -- `compose`: the mark of one map is enough; the time offset of one map alone.
   pub composed_one_mark : compose_call (store_of b_to_c_list) (places_of b_to_c_list) (marked_header b_to_c_list) (store_of a_to_b_list) (places_of a_to_b_list) (unmarked_header a_to_b_list) bytes_lent places_lent
       ≢ map (marked_map (string_pair "/A" "/C" ∷ [])) identity_offset
@@ -104,8 +102,8 @@ pub record WrongMaps : Type 0 where
   pub unmarked_is_identity : path_is_identity (unmarked_header []) ≢ true
   pub timed_is_identity : is_identity_map (header [] true five_two) ≢ true
   -- `with_time_offset`: the old time offset; a map of 65 pairs.
-  pub time_not_replaced : with_time_offset_call (unmarked_header a_to_b_list) five_two ≢ Made (unmarked_header a_to_b_list)
-  pub time_of_65 : with_time_offset_call (map_from_numbers 65 false five two) identity_offset ≢ Made (map_from_numbers 65 false five two)
+  pub time_not_replaced : with_time_offset_call (unmarked_header a_to_b_list) five_two ≢ Ok (unmarked_header a_to_b_list)
+  pub time_of_65 : with_time_offset_call (map_from_numbers 65 false five two) identity_offset ≢ Ok (map_from_numbers 65 false five two)
   -- `map_source_to_target`: the path unmoved; no path; the bytes of `/A` in `/AD`; an empty target taken for a path.
   pub out_unmoved : map_source_to_target_call (store_of a_to_b_list) (places_of a_to_b_list) (unmarked_header a_to_b_list) (bytes "/A/D") 255 ≢ path (bytes "/A/D")
   pub out_no_path : map_source_to_target_call (store_of a_to_b_list) (places_of a_to_b_list) (unmarked_header a_to_b_list) (bytes "/A/D") 255 ≢ refused NoPath

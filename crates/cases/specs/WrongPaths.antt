@@ -1,43 +1,39 @@
 -- Meaning: Wrong answers of the calls on paths. Each field names an input and an answer that the definition of the call excludes; the comment says which
 -- mistake would give that answer.
-use Rattle.std.specs.Prelude.{◌≢◌, true, false, [], get_or, replicate}
+use Rattle.std.specs.Prelude.{◌≢◌, true, false, [], get_or, replicate, Ok, Err}
 use Rattle.text.specs.Text.{bytes}
 use Rattle.text.specs.Bytes.{lower_a, slash}
 use Rattle.refusal.specs.declared.Refusal.TheVariants.{Illegal, NoRoom, NoPath, MadeTooLong, MadeIllegal}
-use Rattle.refusal.specs.declared.Validation.TheVariants.{Passed, Refused}
-use Rattle.refusal.specs.declared.Reply.TheVariants.{Written}
 use Rattle.refusal.specs.Outcome.{path, refused, outcome_buffer}
-use Rattle.path.specs.declared.Test.TheVariants.{Holds, Refused as RefusedTest}
-use Rattle.path.specs.declared.Count.TheVariants.{Counted}
 use Rattle.path.specs.Calls.{path_new_call, is_end_call, has_variant_selection_call, has_prefix_call, element_count_call, prim_element_count_call}
 use Rattle.path_derive.specs.Calls.{replace_prefix_call, parent_call, prim_path_call, split_property_call, strip_call, ancestors_reply}
 
 pub record WrongPaths : Type 0 where
   -- `new` accepts every text; refuses every text; puts question 2 before question 1.
-  pub new_accepts_all : path_new_call (bytes "A") ≢ Passed
-  pub new_refuses_all : path_new_call (bytes "/A") ≢ Refused Illegal
-  pub new_legal_first : path_new_call (replicate 256 65) ≢ Refused Illegal
+  pub new_accepts_all : path_new_call (bytes "A") ≢ (Ok tt)
+  pub new_refuses_all : path_new_call (bytes "/A") ≢ Err Illegal
+  pub new_legal_first : path_new_call (replicate 256 65) ≢ Err Illegal
   -- A digit begins a name; a slash follows a selection; a name may not follow one.
-  pub digit_begins_name : path_new_call (bytes "/1") ≢ Passed
-  pub slash_after_selection : path_new_call (bytes "/A{v=p}/B") ≢ Passed
-  pub no_name_after_selection : path_new_call (bytes "/A{v=p}B") ≢ Refused Illegal
+  pub digit_begins_name : path_new_call (bytes "/1") ≢ (Ok tt)
+  pub slash_after_selection : path_new_call (bytes "/A{v=p}/B") ≢ (Ok tt)
+  pub no_name_after_selection : path_new_call (bytes "/A{v=p}B") ≢ Err Illegal
   -- `is_end`: a property or a selection is an end; nothing is one.
-  pub property_is_end : is_end_call (bytes "/A.b") ≢ Holds true
-  pub selection_is_end : is_end_call (bytes "/A{v=p}") ≢ Holds true
-  pub prim_is_no_end : is_end_call (bytes "/A") ≢ Holds false
+  pub property_is_end : is_end_call (bytes "/A.b") ≢ Ok true
+  pub selection_is_end : is_end_call (bytes "/A{v=p}") ≢ Ok true
+  pub prim_is_no_end : is_end_call (bytes "/A") ≢ Ok false
   -- `has_variant_selection`: a property counts; a selection does not.
-  pub property_is_selection : has_variant_selection_call (bytes "/A.b") ≢ Holds true
-  pub selection_not_seen : has_variant_selection_call (bytes "/A{v=p}") ≢ Holds false
+  pub property_is_selection : has_variant_selection_call (bytes "/A.b") ≢ Ok true
+  pub selection_not_seen : has_variant_selection_call (bytes "/A{v=p}") ≢ Ok false
   -- `has_prefix`: bytes without a boundary; the arguments swapped; no path has a prefix; the prefix not scanned; question 2 put to the path before
   -- question 1 to the prefix.
-  pub prefix_without_boundary : has_prefix_call (bytes "/AB") (bytes "/A") ≢ Holds true
-  pub prefix_swapped : has_prefix_call (bytes "/A") (bytes "/A/B") ≢ Holds true
-  pub prefix_never : has_prefix_call (bytes "/A/B") (bytes "/A") ≢ Holds false
-  pub prefix_unscanned : has_prefix_call (bytes "/A") (bytes "A") ≢ Holds false
-  pub prefix_legal_first : has_prefix_call (bytes "A") (replicate 256 65) ≢ RefusedTest Illegal
+  pub prefix_without_boundary : has_prefix_call (bytes "/AB") (bytes "/A") ≢ Ok true
+  pub prefix_swapped : has_prefix_call (bytes "/A") (bytes "/A/B") ≢ Ok true
+  pub prefix_never : has_prefix_call (bytes "/A/B") (bytes "/A") ≢ Ok false
+  pub prefix_unscanned : has_prefix_call (bytes "/A") (bytes "A") ≢ Ok false
+  pub prefix_legal_first : has_prefix_call (bytes "A") (replicate 256 65) ≢ Err Illegal
   -- `element_count` without the selections, `prim_element_count` with them.
-  pub elements_are_names : element_count_call (bytes "/A{v=p}") ≢ Counted (record { 0 = 1 })
-  pub names_are_elements : prim_element_count_call (bytes "/A{v=p}") ≢ Counted (record { 0 = 2 })
+  pub elements_are_names : element_count_call (bytes "/A{v=p}") ≢ Ok (record { 0 = 1 })
+  pub names_are_elements : prim_element_count_call (bytes "/A{v=p}") ≢ Ok (record { 0 = 2 })
   -- `replace_prefix`: the path unmoved; the slash missing or doubled; 5 without comparing lengths; question 5 before question 2; 7 for 8.
   pub replaced_unmoved : replace_prefix_call (bytes "/A/D") (bytes "/A") (bytes "/B") 255 ≢ path (bytes "/A/D")
   pub replaced_without_slash : replace_prefix_call (bytes "/A{v=p}B") (bytes "/A{v=p}") (bytes "/C") 255 ≢ path (bytes "/CB")
@@ -65,5 +61,5 @@ pub record WrongPaths : Type 0 where
   pub strip_unmoved : strip_call (bytes "/A{v=p}B") 255 ≢ path (bytes "/A{v=p}B")
   pub strip_joined : strip_call (bytes "/A{v=p}B") 255 ≢ path (bytes "/AB")
   -- `ancestors`: one number for all three paths `/A/B`, `/A` and `/`; the path itself, or `/`, not counted.
-  pub ancestors_one_number : ancestors_reply (bytes "/A/B") 1 ≢ Written 1
-  pub ancestors_two : ancestors_reply (bytes "/A/B") 3 ≢ Written 2
+  pub ancestors_one_number : ancestors_reply (bytes "/A/B") 1 ≢ Ok 1
+  pub ancestors_two : ancestors_reply (bytes "/A/B") 3 ≢ Ok 2

@@ -1,8 +1,8 @@
 -- The allowed texts, put together and taken apart: no character is cut by a byte of ASCII, or by the end of an allowed text.
+use Rattle.std.specs.Prelude.{Option, Some, None}
 use mathlib.Core.Path.{◌≡◌, refl, sym, ◌∙◌}
 use mathlib.Core.Bool.{true, false≢true}
 use mathlib.Core.List.{[], ◌∷◌, ◌++◌}
-use mathlib.Core.Option.{Option, none, some}
 use Prim.Native.Nat.{ℕ}
 use lib.Dec.{leb}
 use Rattle.text.specs.Text.{Text}
@@ -25,8 +25,8 @@ after_from u (a ∷ x) y e = reads_byte u a (x ++ y) ∙ go (next u a) (sym (rea
   where
     go : (n : Option Reading) → allowed_after n x ≡ true → ((v : Reading) → allowed_from v x ≡ true → allowed_from v (x ++ y) ≡ allowed_from Between y)
         → allowed_after n (x ++ y) ≡ allowed_from Between y
-    go none f ih = absurd (false≢true f)
-    go (some v) f ih = ih v f
+    go None f ih = absurd (false≢true f)
+    go (Some v) f ih = ih v f
 
 pub allowed_after_lem : (x y : Text) → characters_allowed x ≡ true → characters_allowed (x ++ y) ≡ characters_allowed y
 allowed_after_lem x y e = allowed_from_lem (x ++ y) ∙ after_from Between x y (sym (allowed_from_lem x) ∙ e) ∙ sym (allowed_from_lem y)
@@ -41,8 +41,8 @@ before_from u (b ∷ x) a y h e = reads_byte u b x ∙ go (next u b) (sym (reads
   where
     go : (n : Option Reading) → allowed_after n (x ++ a ∷ y) ≡ true → ((v : Reading) → allowed_from v (x ++ a ∷ y) ≡ true → allowed_from v x ≡ true)
         → allowed_after n x ≡ true
-    go none f ih = f
-    go (some v) f ih = ih v f
+    go None f ih = f
+    go (Some v) f ih = ih v f
 
 module _ (a : ℕ) (h : leb a 0x7F ≡ true) where
   pub allowed_ascii : (r : Text) → characters_allowed (a ∷ r) ≡ characters_allowed r

@@ -1,9 +1,9 @@
 -- Lemmas for the branches of `character_len`, and for the loop of `decodes_allowed`.
+use Rattle.std.specs.Prelude.{Some, None}
 use mathlib.Core.Path.{◌≡◌, refl, sym, ap, ◌∙◌}
 use mathlib.Core.Logic.{◌≢◌}
 use mathlib.Core.Bool.{Bool, true, false, not, cond, ◌&&◌, true≢false}
 use mathlib.Core.List.{[], ◌∷◌}
-use mathlib.Core.Option.{none, some}
 use Prim.Native.Nat.{ℕ, zero, suc, ◌+◌, ◌-◌, ◌%◌, ◌≤◌, ◌<◌}
 use native.Mathlib.Numerals.{add-one}
 use native.Mathlib.Omega.{arith}
@@ -53,7 +53,7 @@ cut_short zero least bits (a ∷ r) h = absurd (omega arith)
 cut_short (suc more) least bits (a ∷ r) h =
     reads_byte (Inside (suc more) least bits) a r ∙ go (is_continuation a) refl (cut_short more least (with_bits bits a) r (omega arith))
   where
-    go : (b : Bool) → is_continuation a ≡ b → allowed_from (Inside more least (with_bits bits a)) r ≡ false → allowed_after (cond b (some (Inside more least (with_bits bits a))) none) r ≡ false
+    go : (b : Bool) → is_continuation a ≡ b → allowed_from (Inside more least (with_bits bits a)) r ≡ false → allowed_after (cond b (Some (Inside more least (with_bits bits a))) None) r ≡ false
     go true e ih = ih
     go false e ih = refl
 

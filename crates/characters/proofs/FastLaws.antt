@@ -1,8 +1,8 @@
 -- The theorem that a text which the first scan accepts is allowed.
+use Rattle.std.specs.Prelude.{Some}
 use mathlib.Core.Path.{◌≡◌, refl, sym, ◌∙◌}
 use mathlib.Core.Bool.{Bool, true, false, cond, ◌&&◌, ◌||◌, true≢false, false≢true}
 use mathlib.Core.List.{[], ◌∷◌}
-use mathlib.Core.Option.{some}
 use Prim.Native.Nat.{ℕ, suc, ◌+◌, ◌*◌, ◌%◌, ◌≤◌}
 use native.Mathlib.Omega.{arith}
 use lib.Dec.{eqb, leb, ltb}
@@ -116,7 +116,7 @@ data Sound : FastState → Reading → Type 0 where
 -- The next state says it of the next reader, unless it is unsure.
 data Follows (u : Reading) (a : ℕ) : FastState → Type 0 where
   unsure : Follows u a Unsure
-  goes : {s : FastState} (v : Reading) → next u a ≡ some v → Sound s v → Follows u a s
+  goes : {s : FastState} (v : Reading) → next u a ≡ Some v → Sound s v → Follows u a s
 
 choose : (u : Reading) (a : ℕ) (b : Bool) (x y : FastState) → (b ≡ true → Follows u a x) → Follows u a y → Follows u a (cond b x y)
 choose u a true x y f g = f refl
@@ -124,15 +124,15 @@ choose u a false x y f g = g
 
 -- The first byte of a character.
 module _ (a : ℕ) where
-  next_2 : 0xC0 ≤ a → a ≤ 0xDF → next Between a ≡ some (Inside 0 0x80 (a % 32))
+  next_2 : 0xC0 ≤ a → a ≤ 0xDF → next Between a ≡ Some (Inside 0 0x80 (a % 32))
   unfolding next
   next_2 h k = rw (lt-leb a 0x7F (omega arith), within_yes 0xC0 0xDF a h k)
 
-  next_3 : 0xE0 ≤ a → a ≤ 0xEF → next Between a ≡ some (Inside 1 0x800 (a % 16))
+  next_3 : 0xE0 ≤ a → a ≤ 0xEF → next Between a ≡ Some (Inside 1 0x800 (a % 16))
   unfolding next
   next_3 h k = rw (lt-leb a 0x7F (omega arith), within_above 0xC0 0xDF a (omega arith), within_yes 0xE0 0xEF a h k)
 
-  next_4 : 0xF0 ≤ a → a ≤ 0xF7 → next Between a ≡ some (Inside 2 0x10000 (a % 8))
+  next_4 : 0xF0 ≤ a → a ≤ 0xF7 → next Between a ≡ Some (Inside 2 0x10000 (a % 8))
   unfolding next
   next_4 h k =
       rw (lt-leb a 0x7F (omega arith), within_above 0xC0 0xDF a (omega arith), within_above 0xE0 0xEF a (omega arith), within_yes 0xF0 0xF7 a h k)
@@ -143,11 +143,11 @@ scalar c n = and_l (is_scalar_value c) _ n
 
 -- The bytes that follow it.
 module _ (least bits a : ℕ) (h : 0x80 ≤ a) (k : a ≤ 0xBF) where
-  next_on : (more : ℕ) → next (Inside (suc more) least bits) a ≡ some (Inside more least (with_bits bits a))
+  next_on : (more : ℕ) → next (Inside (suc more) least bits) a ≡ Some (Inside more least (with_bits bits a))
   unfolding next
   next_on more = rw (within_yes 0x80 0xBF a h k)
 
-  next_last : least ≤ with_bits bits a → is_name_character (with_bits bits a) ≡ true → next (Inside 0 least bits) a ≡ some Between
+  next_last : least ≤ with_bits bits a → is_name_character (with_bits bits a) ≡ true → next (Inside 0 least bits) a ≡ Some Between
   unfolding next
   next_last l n =
       rw (

@@ -1,8 +1,8 @@
 -- The theorem that a text is allowed exactly if the character at its beginning and what follows it are.
+use Rattle.std.specs.Prelude.{Some}
 use mathlib.Core.Path.{◌≡◌, refl, sym, ◌∙◌}
 use mathlib.Core.Bool.{Bool, true, false, not, cond, ◌&&◌}
 use mathlib.Core.List.{[], ◌∷◌}
-use mathlib.Core.Option.{some}
 use Prim.Native.Nat.{ℕ, zero, suc, ◌%◌}
 use native.Mathlib.Omega.{arith}
 use lib.Dec.{eqb, leb}
@@ -51,7 +51,7 @@ module _ (a : ℕ) (r : Text) where
   split n whole true rest e z t s = rw (z, s) e
   split n whole false rest e z t s = e
 
-  longer : (more least bits : ℕ) → next Between a ≡ some (Inside more least bits)
+  longer : (more least bits : ℕ) → next Between a ≡ Some (Inside more least bits)
       → characters_allowed (a ∷ r)
       ≡ (not (eqb (cond (characters_allowed (a ∷ take (suc more) r)) (suc (suc more)) 0) 0) && characters_allowed (drop (cond (characters_allowed (a ∷ take (suc more) r)) (suc (suc more)) 0) (a ∷ r)))
   longer more least bits h =

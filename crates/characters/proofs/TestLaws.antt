@@ -1,8 +1,8 @@
 -- Lemmas for the tests of one character: `is_white_space`, `is_name_character`, `is_two_bytes`, `is_three_bytes` and `is_four_bytes`.
+use Rattle.std.specs.Prelude.{Some, None}
 use mathlib.Core.Path.{◌≡◌, refl, sym, ap, ◌∙◌}
 use mathlib.Core.Bool.{Bool, true, false, not, cond, ◌&&◌, ◌||◌}
 use mathlib.Core.List.{[], ◌∷◌}
-use mathlib.Core.Option.{none, some}
 use Prim.Native.Nat.{ℕ, suc, ◌%◌, ◌≤◌, ◌<◌}
 use native.Mathlib.Omega.{arith}
 use lib.Dec.{eqb, leb}
@@ -53,7 +53,7 @@ module _ (least bits b : ℕ) where
       c : ℕ
       c = with_bits bits b
 
-      only : (x : Bool) → allowed_after (cond x (some Between) none) [] ≡ x
+      only : (x : Bool) → allowed_after (cond x (Some Between) None) [] ≡ x
       only true = nothing_read
       only false = refl
 
@@ -61,7 +61,7 @@ module _ (least bits b : ℕ) where
   unfolding next
   next_byte more t = reads_byte (Inside (suc more) least bits) b t ∙ go (is_continuation b)
     where
-      go : (x : Bool) → allowed_after (cond x (some (Inside more least (with_bits bits b))) none) t ≡ (x && allowed_from (Inside more least (with_bits bits b)) t)
+      go : (x : Bool) → allowed_after (cond x (Some (Inside more least (with_bits bits b))) None) t ≡ (x && allowed_from (Inside more least (with_bits bits b)) t)
       go true = refl
       go false = refl
 

@@ -1,8 +1,8 @@
 -- The theorem that the well-formed texts are the bytes of characters, one after the other.
+use Rattle.std.specs.Prelude.{Option, Some, None}
 use mathlib.Core.Path.{◌≡◌, refl, ap, ◌∙◌}
 use mathlib.Core.Bool.{Bool, true, false, cond, ◌&&◌, false≢true}
 use mathlib.Core.List.{List, [], ◌∷◌, ◌++◌}
-use mathlib.Core.Option.{Option, none, some}
 use Prim.Native.Nat.{ℕ, zero, suc, ◌+◌, ◌/◌, ◌%◌, ◌≤◌, ◌<◌}
 use native.Mathlib.Omega.{arith}
 use lib.Dec.{leb}
@@ -17,7 +17,7 @@ use Rattle.characters.specs.NameCharacter.{are_allowed, allowed_in, characters_a
 use Rattle.characters.proofs.EncodeLaws.{encode_1, encode_2, encode_3, encode_4, decodes}
 
 -- Encoding and then decoding.
-pub encoded_decodes : (cs : List ℕ) → are_scalar_values cs ≡ true → decode_from Between (encode_all cs) ≡ some cs
+pub encoded_decodes : (cs : List ℕ) → are_scalar_values cs ≡ true → decode_from Between (encode_all cs) ≡ Some cs
 unfolding are_scalar_values encode_all decode_from
 encoded_decodes [] e = refl
 encoded_decodes (c ∷ r) e =
@@ -28,24 +28,24 @@ pub ascii_scalar : (a : ℕ) → a ≤ 0x7F → is_scalar_value a ≡ true
 unfolding is_scalar_value
 ascii_scalar a h = rw (le-leb a 0x10FFFF (omega arith), within_below 0xD800 0xDFFF a (omega arith))
 
-no_list : {cs : List ℕ} → none ≡ some cs → ⊥
+no_list : {cs : List ℕ} → None ≡ Some cs → ⊥
 no_list e = let z : ◌≡◌ {A = ℕ} 0 1 = cc in omega arith
 
 -- What was decoded begins with a character.
 record Begins (c : ℕ) (d : Option (List ℕ)) (cs : List ℕ) : Type 0 where
   rest : List ℕ
-  decoded : d ≡ some rest
+  decoded : d ≡ Some rest
   all : cs ≡ c ∷ rest
 
-begins : (c : ℕ) (d : Option (List ℕ)) (cs : List ℕ) → prepend c d ≡ some cs → Begins c d cs
-begins c none cs e = absurd (no_list e)
-begins c (some r) cs e = record { rest = r; decoded = refl; all = cc e }
+begins : (c : ℕ) (d : Option (List ℕ)) (cs : List ℕ) → prepend c d ≡ Some cs → Begins c d cs
+begins c None cs e = absurd (no_list e)
+begins c (Some r) cs e = record { rest = r; decoded = refl; all = cc e }
 
 -- If a text could be decoded from inside a character, its first byte continues the character or completes it.
 record Continued (least bits a : ℕ) (t : Text) (more : ℕ) (cs : List ℕ) : Type 0 where
   low : 0x80 ≤ a
   high : a ≤ 0xBF
-  on : decode_from (Inside more least (with_bits bits a)) t ≡ some cs
+  on : decode_from (Inside more least (with_bits bits a)) t ≡ Some cs
 
 record Completed (least bits a : ℕ) (t : Text) (cs : List ℕ) : Type 0 where
   low : 0x80 ≤ a
@@ -55,20 +55,20 @@ record Completed (least bits a : ℕ) (t : Text) (cs : List ℕ) : Type 0 where
   begun : Begins (with_bits bits a) (decode_from Between t) cs
 
 module _ (least bits a : ℕ) (t : Text) (cs : List ℕ) where
-  continued : (more : ℕ) → decode_from (Inside (suc more) least bits) (a ∷ t) ≡ some cs → Continued least bits a t more cs
+  continued : (more : ℕ) → decode_from (Inside (suc more) least bits) (a ∷ t) ≡ Some cs → Continued least bits a t more cs
   unfolding decode_from
   continued more e = go (is_continuation a) refl e
     where
-      go : (b : Bool) → is_continuation a ≡ b → cond b (decode_from (Inside more least (with_bits bits a)) t) none ≡ some cs → Continued least bits a t more cs
+      go : (b : Bool) → is_continuation a ≡ b → cond b (decode_from (Inside more least (with_bits bits a)) t) None ≡ Some cs → Continued least bits a t more cs
       go true h f = record { low = within_low 0x80 0xBF a h; high = within_high 0x80 0xBF a h; on = f }
       go false h f = absurd (no_list f)
 
-  completed : decode_from (Inside 0 least bits) (a ∷ t) ≡ some cs → Completed least bits a t cs
+  completed : decode_from (Inside 0 least bits) (a ∷ t) ≡ Some cs → Completed least bits a t cs
   unfolding decode_from
   completed e = go (is_continuation a && is_shortest least (with_bits bits a)) refl e
     where
       go : (b : Bool) → (is_continuation a && is_shortest least (with_bits bits a)) ≡ b
-          → cond b (prepend (with_bits bits a) (decode_from Between t)) none ≡ some cs → Completed least bits a t cs
+          → cond b (prepend (with_bits bits a) (decode_from Between t)) None ≡ Some cs → Completed least bits a t cs
       go true h f =
           let k : is_continuation a ≡ true = and_l (is_continuation a) (is_shortest least (with_bits bits a)) h in
           let l : is_shortest least (with_bits bits a) ≡ true = and_r (is_continuation a) (is_shortest least (with_bits bits a)) h in
@@ -89,15 +89,15 @@ encoded_cons c x y cs d s e w r =
 
 -- Texts shorter than n bytes are the bytes of their characters.
 abbrev Below : ℕ → Type 0
-Below n = (t : Text) → length t < n → (cs : List ℕ) → decode_from Between t ≡ some cs → Encoded t cs
+Below n = (t : Text) → length t < n → (cs : List ℕ) → decode_from Between t ≡ Some cs → Encoded t cs
 
 module _ (a : ℕ) (n : ℕ) (ih : Below n) (cs : List ℕ) where
-  back_1 : (t : Text) → length t < n → a ≤ 0x7F → prepend a (decode_from Between t) ≡ some cs → Encoded (a ∷ t) cs
+  back_1 : (t : Text) → length t < n → a ≤ 0x7F → prepend a (decode_from Between t) ≡ Some cs → Encoded (a ∷ t) cs
   back_1 t l h e =
       let w = begins a (decode_from Between t) cs e in
       encoded_cons a (a ∷ []) t cs (decode_from Between t) (ascii_scalar a h) (encode_1 a h) w (ih t l w.rest w.decoded)
 
-  back_2 : (t : Text) → length t ≤ n → 0xC0 ≤ a → a ≤ 0xDF → decode_from (Inside 0 0x80 (a % 32)) t ≡ some cs → Encoded (a ∷ t) cs
+  back_2 : (t : Text) → length t ≤ n → 0xC0 ≤ a → a ≤ 0xDF → decode_from (Inside 0 0x80 (a % 32)) t ≡ Some cs → Encoded (a ∷ t) cs
   unfolding decode_from
   back_2 [] l h k e = absurd (no_list e)
   back_2 (b ∷ t) l h k e =
@@ -109,7 +109,7 @@ module _ (a : ℕ) (n : ℕ) (ih : Below n) (cs : List ℕ) where
       (encode_2 c (omega (arith, w.shortest)) (omega (arith, w.low, w.high)) ∙ rw (i, j)) w.begun
       (ih t (omega arith) w.begun.rest w.begun.decoded)
 
-  back_3 : (t : Text) → length t ≤ n → 0xE0 ≤ a → a ≤ 0xEF → decode_from (Inside 1 0x800 (a % 16)) t ≡ some cs → Encoded (a ∷ t) cs
+  back_3 : (t : Text) → length t ≤ n → 0xE0 ≤ a → a ≤ 0xEF → decode_from (Inside 1 0x800 (a % 16)) t ≡ Some cs → Encoded (a ∷ t) cs
   unfolding decode_from
   back_3 [] l h k e = absurd (no_list e)
   back_3 (b ∷ t) l h k e = go t l (continued 0x800 (a % 16) b t cs 0 e)
@@ -126,7 +126,7 @@ module _ (a : ℕ) (n : ℕ) (ih : Below n) (cs : List ℕ) where
           (encode_3 c (omega (arith, w.shortest)) (omega (arith, v.low, v.high, w.low, w.high)) ∙ rw (i, j, m)) w.begun
           (ih t (omega arith) w.begun.rest w.begun.decoded)
 
-  back_4 : (t : Text) → length t ≤ n → 0xF0 ≤ a → a ≤ 0xF7 → decode_from (Inside 2 0x10000 (a % 8)) t ≡ some cs → Encoded (a ∷ t) cs
+  back_4 : (t : Text) → length t ≤ n → 0xF0 ≤ a → a ≤ 0xF7 → decode_from (Inside 2 0x10000 (a % 8)) t ≡ Some cs → Encoded (a ∷ t) cs
   unfolding decode_from
   back_4 [] l h k e = absurd (no_list e)
   back_4 (b ∷ t) l h k e = go t l (continued 0x10000 (a % 8) b t cs 1 e)
@@ -157,7 +157,7 @@ decoded_encodes (suc n) (a ∷ r) l cs e =
     go (leb a 0x7F) (in_range 0xC0 0xDF a) (in_range 0xE0 0xEF a) (in_range 0xF0 0xF7 a) refl refl refl refl e (λ t. decoded_encodes n t)
   where
     go : (one two three four : Bool) → leb a 0x7F ≡ one → in_range 0xC0 0xDF a ≡ two → in_range 0xE0 0xEF a ≡ three → in_range 0xF0 0xF7 a ≡ four
-        → cond one (prepend a (decode_from Between r)) (cond two (decode_from (Inside 0 0x80 (a % 32)) r) (cond three (decode_from (Inside 1 0x800 (a % 16)) r) (cond four (decode_from (Inside 2 0x10000 (a % 8)) r) none))) ≡ some cs
+        → cond one (prepend a (decode_from Between r)) (cond two (decode_from (Inside 0 0x80 (a % 32)) r) (cond three (decode_from (Inside 1 0x800 (a % 16)) r) (cond four (decode_from (Inside 2 0x10000 (a % 8)) r) None))) ≡ Some cs
         → Below n → Encoded (a ∷ r) cs
     go true two three four h i j k f ih = back_1 a n ih cs r (omega arith) (leb-true a 0x7F h) f
     go false true three four h i j k f ih = back_2 a n ih cs r (omega arith) (within_low 0xC0 0xDF a i) (within_high 0xC0 0xDF a i) f
@@ -185,5 +185,5 @@ unfolding characters_allowed
 allowed_characters p e = go (decode p) refl e
   where
     go : (d : Option (List ℕ)) → decode p ≡ d → allowed_in d ≡ true → AllowedCharacters p
-    go none h f = absurd (false≢true f)
-    go (some cs) h f = record { characters = cs; allowed = f; encoded = (decodes_exactly p cs).0 h }
+    go None h f = absurd (false≢true f)
+    go (Some cs) h f = record { characters = cs; allowed = f; encoded = (decodes_exactly p cs).0 h }

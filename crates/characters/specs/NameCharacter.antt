@@ -1,6 +1,5 @@
 -- Meaning: The characters outside ASCII that a name may have.
-use Rattle.std.specs.Prelude.{ℕ, Bool, true, false, not, ◌&&◌, ◌||◌, List, [], ◌∷◌, eqb, leb}
-use Rattle.std.proofs.Math.Option.{Option, none, some}
+use Rattle.std.specs.Prelude.{ℕ, Bool, true, false, not, ◌&&◌, ◌||◌, List, [], ◌∷◌, eqb, leb, Option, Some, None}
 use Rattle.text.specs.Text.{Text}
 use Rattle.text.specs.Range.{in_range}
 use Rattle.characters.specs.Utf8.{is_scalar_value, decode}
@@ -32,8 +31,8 @@ are_allowed (c ∷ r) = is_allowed c && are_allowed r
 
 -- The characters that were decoded are of this kind; none were if the text is malformed. Requirements: "Malformed UTF-8 gets 2."
 abbrev pub allowed_in : Option (List ℕ) → Bool
-allowed_in none = false
-allowed_in (some characters) = are_allowed characters
+allowed_in None = false
+allowed_in (Some characters) = are_allowed characters
 
 -- The text is well-formed UTF-8, and each of its characters outside ASCII is one that a name may have.
 unfoldable pub characters_allowed : Text → Bool

@@ -1,7 +1,6 @@
 -- Meaning: UTF-8: the bytes of a character, and the characters of a text. A character is given by its code point. The Unicode Standard, 3.9,
 -- definitions D76 (scalar values) and D92 (UTF-8); RFC 3629.
-use Rattle.std.specs.Prelude.{ℕ, zero, suc, ◌+◌, ◌*◌, ◌/◌, ◌%◌, ◌≡◌, Bool, true, not, cond, ◌&&◌, List, [], ◌∷◌, ◌++◌, ◌↔◌, leb}
-use Rattle.std.proofs.Math.Option.{Option, none, some}
+use Rattle.std.specs.Prelude.{ℕ, zero, suc, ◌+◌, ◌*◌, ◌/◌, ◌%◌, ◌≡◌, Bool, true, not, cond, ◌&&◌, List, [], ◌∷◌, ◌++◌, ◌↔◌, leb, Option, Some, None}
 use Rattle.text.specs.Text.{Text}
 use Rattle.text.specs.Range.{in_range}
 
@@ -56,24 +55,24 @@ is_shortest least c = leb least c && is_scalar_value c
 
 -- A character before the characters of the rest; none if the rest has none.
 abbrev pub prepend : ℕ → Option (List ℕ) → Option (List ℕ)
-prepend c none = none
-prepend c (some r) = some (c ∷ r)
+prepend c None = None
+prepend c (Some r) = Some (c ∷ r)
 
 -- The characters of a text, read from the middle of it; none if it is malformed: overlong forms, surrogates, numbers above U+10FFFF, characters
 -- that are cut off, and bytes that continue none.
 unfoldable pub decode_from : Reading → Text → Option (List ℕ)
 unfolding is_scalar_value
-decode_from Between [] = some []
+decode_from Between [] = Some []
 decode_from Between (a ∷ r) =
     cond (leb a 0x7F) (prepend a (decode_from Between r))
     (cond (in_range 0xC0 0xDF a) (decode_from (Inside 0 0x80 (a % 32)) r)
     (cond (in_range 0xE0 0xEF a) (decode_from (Inside 1 0x800 (a % 16)) r)
-    (cond (in_range 0xF0 0xF7 a) (decode_from (Inside 2 0x10000 (a % 8)) r) none)))
-decode_from (Inside more least bits) [] = none
+    (cond (in_range 0xF0 0xF7 a) (decode_from (Inside 2 0x10000 (a % 8)) r) None)))
+decode_from (Inside more least bits) [] = None
 decode_from (Inside zero least bits) (a ∷ r) =
-    cond (is_continuation a && is_shortest least (with_bits bits a)) (prepend (with_bits bits a) (decode_from Between r)) none
+    cond (is_continuation a && is_shortest least (with_bits bits a)) (prepend (with_bits bits a) (decode_from Between r)) None
 decode_from (Inside (suc more) least bits) (a ∷ r) =
-    cond (is_continuation a) (decode_from (Inside more least (with_bits bits a)) r) none
+    cond (is_continuation a) (decode_from (Inside more least (with_bits bits a)) r) None
 
 -- The characters of a text; none if it is malformed.
 unfoldable pub decode : Text → Option (List ℕ)
@@ -88,4 +87,4 @@ pub record Encoded (p : Text) (characters : List ℕ) : Type 0 where
 -- Theorem (proofs/Theorem.antt): the well-formed texts are the bytes of characters, one after the other. Encoding and then decoding gives the
 -- characters, and decoding and then encoding gives the text.
 abbrev pub DecodesExactly : Type 0
-DecodesExactly = (p : Text) (characters : List ℕ) → (decode p ≡ some characters) ↔ Encoded p characters
+DecodesExactly = (p : Text) (characters : List ℕ) → (decode p ≡ Some characters) ↔ Encoded p characters

@@ -207,6 +207,7 @@ fn fast_accepts(text: &[u8]) -> bool
 fn decodes_allowed(text: &[u8]) -> bool
     ensures { result ≡ characters_allowed text.now }
 {
+    // A `while`: each turn passes a character of one to four bytes.
     let mut i = 0;
     while i < text.len() {
         let n = character_len(text, i);

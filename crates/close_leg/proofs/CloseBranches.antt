@@ -1,4 +1,5 @@
 -- Lemmas about the branches of the functions that close a list.
+use Rattle.std.specs.Prelude.{Result, Ok, Err, Option, Some, None, ⊤}
 use mathlib.Core.Path.{◌≡◌, refl, sym, ap, ◌∙◌}
 use mathlib.Core.Bool.{Bool, true, false, not, cond, ◌&&◌, ◌||◌}
 use mathlib.Core.List.{List, [], ◌∷◌, ◌++◌, append_assoc}
@@ -13,16 +14,12 @@ use Rattle.text.proofs.BoolLaws.{and_l, and_r, and_yes, known_false, known_true}
 use Rattle.pair_list.specs.Pair.{Pair}
 use Rattle.pair_list.specs.Places.{pairs_in, list_places, end_bytes}
 use Rattle.pair_list_write.specs.Lists.{remaining_room, append_fits_buffers, append_list_bytes, append_list_slots}
-use Rattle.pair_list_write.specs.declared.Room.{Room}
-use Rattle.pair_list_write.specs.declared.Room.TheVariants.{Left, Over}
 use Rattle.pair_list.proofs.PlaceLaws.{pairs_in_length}
 use Rattle.pair_list.proofs.ListLaws.{places_length}
 use Rattle.pair_list_write.proofs.RoomBranches.{left_fits, over_full}
 use Rattle.route_legs.proofs.LegBranches.{leg_written}
 use Rattle.refusal.specs.declared.Refusal.{Refusal}
 use Rattle.refusal.specs.declared.Refusal.TheVariants.{TooMany, NoRoom}
-use Rattle.refusal.specs.declared.Validation.{Validation}
-use Rattle.refusal.specs.declared.Validation.TheVariants.{Passed, Refused as RefusedValidation}
 use Rattle.validate.specs.Validate.{LentList, lent_list, pairs_of, count_within_limit}
 use Rattle.validate.specs.Select.{can_select, pairs_if_selectable}
 use Rattle.validate.proofs.RefusalLaws.{never}
@@ -36,8 +33,6 @@ use Rattle.relocates.specs.Status.{active_pairs}
 use Rattle.route_spec.specs.Leg.{counted_pairs}
 use Rattle.route_spec.proofs.RelocateLaws.{active_few, closed_parts}
 use Rattle.close_leg.specs.declared.LegTotals.{LegTotals}
-use Rattle.close_leg.specs.declared.Closed.{Closed}
-use Rattle.close_leg.specs.declared.Closed.TheVariants.{Done, Refused}
 use Rattle.close_leg.specs.Close.{LegStore, leg_store, store_has_leg_room, store_has_byte_room, validate_close, with_leg, closed_store, closed_reply, close_list_reply, close_list_store, validate_close_of, close_reply, close_store}
 
 -- `has_leg_room`
@@ -80,34 +75,34 @@ module _ (l : List Pair) (g : LegTotals) (store : Text) (slots table : List ℕ)
   abbrev v : LegStore
   v = leg_store g store slots table
 
-  pub validate_many : not b ≡ true → Refused TooMany ≡ close_list_reply l v
+  pub validate_many : not b ≡ true → Err TooMany ≡ close_list_reply l v
   unfolding close_list_reply validate_close closed_reply
   validate_many h = rw (known_false e h) refl
 
   module _ (h : not b ≡ false) where
-    full : store_has_byte_room v (end_bytes l) ≡ false → Refused NoRoom ≡ close_list_reply l v
+    full : store_has_byte_room v (end_bytes l) ≡ false → Err NoRoom ≡ close_list_reply l v
     unfolding close_list_reply validate_close closed_reply
     full k = rw (known_true e h, k) refl
 
-    over_limit : 32768 < g.bytes + end_bytes l → Refused NoRoom ≡ close_list_reply l v
+    over_limit : 32768 < g.bytes + end_bytes l → Err NoRoom ≡ close_list_reply l v
     over_limit k = full (rw (lt-leb (g.bytes + end_bytes l) 32768 k) refl)
 
-    pub validate_start : 32768 < g.bytes → Refused NoRoom ≡ close_list_reply l v
+    pub validate_start : 32768 < g.bytes → Err NoRoom ≡ close_list_reply l v
     validate_start k = over_limit (omega (arith, k))
 
-    module _ (m : g.bytes ≤ 32768) (room : Room) (f : room ≡ remaining_room l (32768 - g.bytes)) where
-      pub validate_over : room ≡ Over → Refused NoRoom ≡ close_list_reply l v
+    module _ (m : g.bytes ≤ 32768) (room : Option ℕ) (f : room ≡ remaining_room l (32768 - g.bytes)) where
+      pub validate_over : room ≡ None → Err NoRoom ≡ close_list_reply l v
       validate_over k = over_limit (omega (arith, m, over_full l (32768 - g.bytes) room f k))
 
-      module _ (left : ℕ) (k : room ≡ Left left) where
+      module _ (left : ℕ) (k : room ≡ Some left) where
         total : end_bytes l + left ≡ 32768 - g.bytes
         total = left_fits l (32768 - g.bytes) room f left k
 
-        pub validate_short : length store < 32768 - left → Refused NoRoom ≡ close_list_reply l v
+        pub validate_short : length store < 32768 - left → Err NoRoom ≡ close_list_reply l v
         validate_short o =
             full (rw (le-leb (g.bytes + end_bytes l) 32768 (omega (arith, m, total)), lt-leb (g.bytes + end_bytes l) (length store) (omega (arith, m, total, o))) refl)
 
-        pub validate_done : 32768 - left ≤ length store → Done (record { count = g.count + 1; bytes = 32768 - left }) ≡ close_list_reply l v
+        pub validate_done : 32768 - left ≤ length store → Ok (record { count = g.count + 1; bytes = 32768 - left }) ≡ close_list_reply l v
         unfolding close_list_reply validate_close closed_reply
         validate_done o =
             let z : 32768 - left ≡ g.bytes + end_bytes l = omega (arith, m, total) in
@@ -119,23 +114,23 @@ pub entry_known : (l : List ℕ) (j m a b : ℕ) (mark : Bool) → m ≡ cond ma
 entry_known l j m a b mark e h l' w = rw (← e) (leg_written j m a b l h l' w)
 
 -- `close_list`
-reply_passed : (a : Validation) (g h : LegTotals) (n : ℕ) → closed_reply a g n ≡ Done h → a ≡ Passed
+reply_passed : (a : Result ⊤ Refusal) (g h : LegTotals) (n : ℕ) → closed_reply a g n ≡ Ok h → a ≡ Ok tt
 unfolding closed_reply
-reply_passed Passed g h n e = refl
-reply_passed (RefusedValidation x) g h n e = absurd (let z : ◌≡◌ {A = ℕ} 0 1 = cc in omega arith)
+reply_passed (Ok tt) g h n e = refl
+reply_passed (Err x) g h n e = absurd (let z : ◌≡◌ {A = ℕ} 0 1 = cc in omega arith)
 
 -- A refusal changes nothing.
-reply_refused : (a : Validation) (g : LegTotals) (n : ℕ) (x : Refusal) (v : LegStore) (m : Map) → closed_reply a g n ≡ Refused x → closed_store a v m n ≡ v
+reply_refused : (a : Result ⊤ Refusal) (g : LegTotals) (n : ℕ) (x : Refusal) (v : LegStore) (m : Map) → closed_reply a g n ≡ Err x → closed_store a v m n ≡ v
 unfolding closed_reply closed_store
-reply_refused Passed g n x v m e = absurd (let z : ◌≡◌ {A = ℕ} 0 1 = cc in omega arith)
-reply_refused (RefusedValidation y) g n x v m e = refl
+reply_refused (Ok tt) g n x v m e = absurd (let z : ◌≡◌ {A = ℕ} 0 1 = cc in omega arith)
+reply_refused (Err y) g n x v m e = refl
 
-validated_fits : (v : LegStore) (l : List Pair) → validate_close v l ≡ Passed
+validated_fits : (v : LegStore) (l : List Pair) → validate_close v l ≡ Ok tt
     → (v.legs.count < 16) × (256 * v.legs.count + 256 ≤ length v.slots) × (3 * v.legs.count + 3 ≤ length v.table) × (v.legs.bytes + end_bytes l ≤ length v.store)
 unfolding validate_close
 validated_fits v l e = go (store_has_leg_room v) refl (store_has_byte_room v (end_bytes l)) refl e
   where
-    go : (a : Bool) → store_has_leg_room v ≡ a → (b : Bool) → store_has_byte_room v (end_bytes l) ≡ b → cond a (cond b Passed (RefusedValidation NoRoom)) (RefusedValidation TooMany) ≡ Passed
+    go : (a : Bool) → store_has_leg_room v ≡ a → (b : Bool) → store_has_byte_room v (end_bytes l) ≡ b → ◌≡◌ {A = Result ⊤ Refusal} (cond a (cond b (Ok tt) (Err NoRoom)) (Err TooMany)) (Ok tt)
         → (v.legs.count < 16) × (256 * v.legs.count + 256 ≤ length v.slots) × (3 * v.legs.count + 3 ≤ length v.table) × (v.legs.bytes + end_bytes l ≤ length v.store)
     go true h true k e =
         let f = leg_fits v.legs v.slots v.table h in
@@ -155,23 +150,23 @@ module _ (at k : ℕ) (t s : List ℕ) (h : length t ≤ k) (f : at + k ≤ leng
       = sym (drop-append-le (length t) (take k d) (drop k d) (omega (arith, h, n))) ∙ ap (drop (length t)) (take-append-drop k d) ∙ drop-drop (length t) at s in
       rw (z, append_assoc t (drop (length t) (take k d)) (drop k d), e) refl
 
-module _ (mark : Bool) (l : List Pair) (g : LegTotals) (store : Text) (slots table : List ℕ) (r : Closed) (e : r ≡ close_list_reply l (leg_store g store slots table)) where
+module _ (mark : Bool) (l : List Pair) (g : LegTotals) (store : Text) (slots table : List ℕ) (r : Result LegTotals Refusal) (e : r ≡ close_list_reply l (leg_store g store slots table)) where
   abbrev before : LegStore
   before = leg_store g store slots table
 
   -- The reply and the buffers after the call.
-  abbrev Closes : Closed → Text → List ℕ → List ℕ → Type 0
+  abbrev Closes : Result LegTotals Refusal → Text → List ℕ → List ℕ → Type 0
   Closes r' store' slots' table' = (r' ≡ close_list_reply l before)
       × ((store' ≡ (close_list_store mark l before).store) × ((slots' ≡ (close_list_store mark l before).slots) × (table' ≡ (close_list_store mark l before).table)))
 
-  pub list_refused : (x : Refusal) → r ≡ Refused x → Closes (Refused x) store slots table
+  pub list_refused : (x : Refusal) → r ≡ Err x → Closes (Err x) store slots table
   unfolding close_list_reply close_list_store
   list_refused x h =
       let z : close_list_store mark l before ≡ before = reply_refused (validate_close before l) g (end_bytes l) x before (from_parts l mark) (sym e ∙ h) in
       (sym h ∙ e, (ap (λ (v : LegStore). v.store) (sym z), (ap (λ (v : LegStore). v.slots) (sym z), ap (λ (v : LegStore). v.table) (sym z))))
 
-  module _ (legs : LegTotals) (h : r ≡ Done legs) where
-    passed : validate_close before l ≡ Passed
+  module _ (legs : LegTotals) (h : r ≡ Ok legs) where
+    passed : validate_close before l ≡ Ok tt
     unfolding close_list_reply
     passed = reply_passed (validate_close before l) g legs (end_bytes l) (sym e ∙ h)
 
@@ -235,7 +230,7 @@ module _ (relocates : Bool) (bytes : Text) (places : List ℕ) (n : ℕ) (v : Le
   abbrev lent : LentList
   lent = lent_list bytes places n
 
-  abbrev Shuts : Closed → Text → List ℕ → List ℕ → Type 0
+  abbrev Shuts : Result LegTotals Refusal → Text → List ℕ → List ℕ → Type 0
   Shuts r store slots table = (r ≡ close_reply relocates lent v)
       × ((store ≡ (close_store relocates lent v).store) × ((slots ≡ (close_store relocates lent v).slots) × (table ≡ (close_store relocates lent v).table)))
 
@@ -243,7 +238,7 @@ module _ (relocates : Bool) (bytes : Text) (places : List ℕ) (n : ℕ) (v : Le
   unfolding can_select count_within_limit
   damaged h = sym (and_yes (count_within_limit lent)) ∙ known_false e h
 
-  pub close_damaged : not b ≡ true → Shuts (Refused TooMany) v.store v.slots v.table
+  pub close_damaged : not b ≡ true → Shuts (Err TooMany) v.store v.slots v.table
   unfolding close_reply close_store validate_close_of closed_reply closed_store
   close_damaged h = rw (damaged h) (refl, (refl, (refl, refl)))
 
@@ -252,7 +247,7 @@ module _ (relocates : Bool) (bytes : Text) (places : List ℕ) (n : ℕ) (v : Le
     unfolding can_select count_within_limit
     counts = and_l (count_within_limit lent) (leb 256 256) (known_true e h)
 
-    pub close_as : (mark : Bool) → relocates ≡ mark → (l : List Pair) → l ≡ counted_pairs mark (pairs_of lent) → (r : Closed) (store : Text) (slots table : List ℕ)
+    pub close_as : (mark : Bool) → relocates ≡ mark → (l : List Pair) → l ≡ counted_pairs mark (pairs_of lent) → (r : Result LegTotals Refusal) (store : Text) (slots table : List ℕ)
         → (r ≡ close_list_reply l v) × ((store ≡ (close_list_store mark l v).store) × ((slots ≡ (close_list_store mark l v).slots) × (table ≡ (close_list_store mark l v).table)))
         → Shuts r store slots table
     unfolding close_reply close_store validate_close_of close_list_reply close_list_store

@@ -1,21 +1,17 @@
 -- Meaning: Closing the open list as a leg, in lent memory: the reply, and every byte and entry after the call, for any contents of the buffers. All
 -- legs share one byte store; each has a block of 256 place entries and three numbers in the table, in the layout of crates/route_legs.
-use Rattle.std.specs.Prelude.{ℕ, suc, ◌+◌, ◌*◌, Bool, cond, ◌&&◌, List, [], ◌∷◌, leb, length}
+use Rattle.std.specs.Prelude.{ℕ, suc, ◌+◌, ◌*◌, Bool, cond, ◌&&◌, List, [], ◌∷◌, leb, length, Result, Ok, Err, ⊤}
 use Rattle.text.specs.Text.{Text, written_at}
 use Rattle.pair_list.specs.Pair.{Pair}
 use Rattle.pair_list.specs.Places.{pairs_in, list_text, list_places, end_bytes}
 use Rattle.refusal.specs.declared.Refusal.{Refusal}
 use Rattle.refusal.specs.declared.Refusal.TheVariants.{TooMany, NoRoom}
-use Rattle.refusal.specs.declared.Validation.{Validation}
-use Rattle.refusal.specs.declared.Validation.TheVariants.{Passed, Refused as RefusedValidation}
 use Rattle.refusal.specs.Refusal.{refused_or}
 use Rattle.validate.specs.Validate.{LentList, pairs_of, count_within_limit}
 use Rattle.map_spec.specs.Map.{Map}
 use Rattle.map_spec.specs.New.{from_parts}
 use Rattle.route_spec.specs.Leg.{leg_map, closed_leg, counted_pairs}
 use Rattle.close_leg.specs.declared.LegTotals.{LegTotals}
-use Rattle.close_leg.specs.declared.Closed.{Closed}
-use Rattle.close_leg.specs.declared.Closed.TheVariants.{Done, Refused}
 
 -- The leg's map.
 abbrev pub closed_map : Bool → List Pair → Map
@@ -41,10 +37,10 @@ abbrev pub store_has_byte_room : LegStore → ℕ → Bool
 store_has_byte_room v n = leb (v.legs.bytes + n) 32768 && leb (v.legs.bytes + n) (length v.store)
 
 -- Validation of a close: questions 4 and 5 for the list before redundant pairs are dropped.
-unfoldable pub validate_close : LegStore → List Pair → Validation
+unfoldable pub validate_close : LegStore → List Pair → Result ⊤ Refusal
 unfolding end_bytes
 validate_close v before =
-    cond (store_has_leg_room v) (cond (store_has_byte_room v (end_bytes before)) Passed (RefusedValidation NoRoom)) (RefusedValidation TooMany)
+    cond (store_has_leg_room v) (cond (store_has_byte_room v (end_bytes before)) (Ok tt) (Err NoRoom)) (Err TooMany)
 
 -- The number of legs and bytes with the leg appended.
 abbrev pub with_one_leg : LegTotals → ℕ → LegTotals
@@ -66,16 +62,16 @@ with_leg v m n = record {
 }
 
 -- The leg store after a close. Requirements: "An accepted close empties the open list; a refused one changes nothing."
-unfoldable pub closed_store : Validation → LegStore → Map → ℕ → LegStore
+unfoldable pub closed_store : Result ⊤ Refusal → LegStore → Map → ℕ → LegStore
 unfolding with_leg
 closed_store a v m n = refused_or a (λ (x : Refusal). v) (with_leg v m n)
 
 -- The reply of a close: the new number of legs and bytes, or the refusal.
-unfoldable pub closed_reply : Validation → LegTotals → ℕ → Closed
-closed_reply a g n = refused_or a Refused (Done (with_one_leg g n))
+unfoldable pub closed_reply : Result ⊤ Refusal → LegTotals → ℕ → Result LegTotals Refusal
+closed_reply a g n = refused_or a Err (Ok (with_one_leg g n))
 
 -- The reply of closing a list of pairs as a leg.
-unfoldable pub close_list_reply : List Pair → LegStore → Closed
+unfoldable pub close_list_reply : List Pair → LegStore → Result LegTotals Refusal
 unfolding validate_close closed_reply end_bytes
 close_list_reply l v = closed_reply (validate_close v l) v.legs (end_bytes l)
 
@@ -85,12 +81,12 @@ unfolding validate_close closed_store from_parts end_bytes
 close_list_store mark l v = closed_store (validate_close v l) v (from_parts l mark) (end_bytes l)
 
 -- Validation of closing the open list: a number of pairs beyond its slice is refused by question 4.
-unfoldable pub validate_close_of : Bool → LentList → LegStore → Validation
+unfoldable pub validate_close_of : Bool → LentList → LegStore → Result ⊤ Refusal
 unfolding count_within_limit counted_pairs validate_close pairs_in
-validate_close_of relocates l v = cond (count_within_limit l) (validate_close v (counted_pairs relocates (pairs_of l))) (RefusedValidation TooMany)
+validate_close_of relocates l v = cond (count_within_limit l) (validate_close v (counted_pairs relocates (pairs_of l))) (Err TooMany)
 
 -- The reply of a call that closes the open list.
-unfoldable pub close_reply : Bool → LentList → LegStore → Closed
+unfoldable pub close_reply : Bool → LentList → LegStore → Result LegTotals Refusal
 unfolding validate_close_of closed_reply end_bytes
 close_reply relocates l v = closed_reply (validate_close_of relocates l v) v.legs (end_bytes (counted_pairs relocates (pairs_of l)))
 

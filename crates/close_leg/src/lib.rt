@@ -7,19 +7,14 @@ ghost use Rattle.pair_list.specs.Places.{pairs_in};
 ghost use Rattle.validate.specs.Validate.{lent_list};
 ghost use Rattle.close_leg.specs.Close.{leg_store, store_has_leg_room, close_list_reply, close_list_store, close_reply, close_store};
 
+use refusal::Refusal;
+
 // The size of the leg store: the number of legs, and the bytes of their ends before redundant pairs are
 // dropped.
 #[derive(Clone, Copy)]
 pub struct LegTotals {
     pub count: usize,
     pub bytes: usize,
-}
-
-// The reply of closing the open list: the new size of the leg store, or the refusal.
-#[derive(Clone, Copy)]
-pub enum Closed {
-    Done(LegTotals),
-    Refused(refusal::Refusal),
 }
 
 // Returns whether there is space for one more leg (question 4).
@@ -48,39 +43,28 @@ fn validate_close(
     store: &[u8],
     slots: &[usize],
     table: &[usize],
-) -> Closed
+) -> Result<LegTotals, Refusal>
     ensures { result ≡ close_list_reply (pairs_in bytes.now places.now n)
         (leg_store v store.now slots.now table.now) }
 {
     if !has_leg_room(v, slots, table) {
-        return Closed::Refused(refusal::Refusal::TooMany);
+        return Err(Refusal::TooMany);
     }
     let at = v.bytes;
     if 32768 < at {
-        return Closed::Refused(refusal::Refusal::NoRoom);
+        return Err(Refusal::NoRoom);
     }
-    let room = pair_list_write::remaining_room(bytes, places, n, 32768 - at);
-    let pair_list_write::Room::Left(left) = room else {
-        return Closed::Refused(refusal::Refusal::NoRoom);
+    let Some(left) = pair_list_write::remaining_room(bytes, places, n, 32768 - at) else {
+        return Err(Refusal::NoRoom);
     };
     let total = 32768 - left;
     if store.len() < total {
-        return Closed::Refused(refusal::Refusal::NoRoom);
+        return Err(Refusal::NoRoom);
     }
-    Closed::Done(LegTotals {
+    Ok(LegTotals {
         count: v.count + 1,
         bytes: total,
     })
-}
-
-// The number that encodes the mark.
-fn mark_number(mark: bool) -> usize
-    ensures { result ≡ cond mark 1 0 }
-{
-    if mark {
-        return 1;
-    }
-    0
 }
 
 // Writes the three numbers of leg k, which has w pairs.
@@ -88,7 +72,7 @@ fn write_leg_entry(k: usize, mark: bool, w: usize, table: &mut [usize])
     requires { (k < 16) × (3 * k + 3 ≤ length table.old) }
     ensures { table.new ≡ written_at (3 * k) (cond mark 1 0 ∷ 64 * k ∷ w ∷ []) table.old }
 {
-    route_legs::write_leg(k, mark_number(mark), 64 * k, w, table);
+    route_legs::write_leg(k, usize::from(mark), 64 * k, w, table);
 }
 
 // Closes the first n pairs as a leg; its map has the mark if `mark` is set or a pair is `/`→`/`.
@@ -101,7 +85,7 @@ fn close_list(
     store: &mut [u8],
     slots: &mut [usize],
     table: &mut [usize],
-) -> Closed
+) -> Result<LegTotals, Refusal>
     requires { (n ≤ 64) × (4 * n ≤ length places.now) }
     ensures value { result ≡ close_list_reply (pairs_in bytes.now places.now n)
         (leg_store v store.old slots.old table.old) }
@@ -112,10 +96,7 @@ fn close_list(
     ensures table_after { table.new ≡ (close_list_store mark (pairs_in bytes.now places.now n)
         (leg_store v store.old slots.old table.old)).table }
 {
-    let r = validate_close(bytes, places, n, v, store, slots, table);
-    if let Closed::Refused(x) = r {
-        return Closed::Refused(x);
-    }
+    let totals = validate_close(bytes, places, n, v, store, slots, table)?;
     let marked = map_canonical::is_marked(mark, bytes, places, n);
     let mut kept = [0usize; 256];
     let w = map_canonical::canonical_places(bytes, places, n, marked, &mut kept);
@@ -123,7 +104,7 @@ fn close_list(
     let end = at + 256;
     pair_list_write::append_list(bytes, &kept, w, v.bytes, store, &mut slots[at..end]);
     write_leg_entry(v.count, marked, w, table);
-    r
+    Ok(totals)
 }
 
 // Closes the open list of n pairs as a leg: a relocate leg if `relocates` is set, otherwise a map leg.
@@ -136,7 +117,7 @@ pub fn close(
     store: &mut [u8],
     slots: &mut [usize],
     table: &mut [usize],
-) -> Closed
+) -> Result<LegTotals, Refusal>
     ensures value { result ≡ close_reply relocates (lent_list bytes.now places.now n)
         (leg_store v store.old slots.old table.old) }
     ensures store_after { store.new ≡ (close_store relocates (lent_list bytes.now places.now n)
@@ -147,7 +128,7 @@ pub fn close(
         (leg_store v store.old slots.old table.old)).table }
 {
     if !validate::can_select(places, n, 256) {
-        return Closed::Refused(refusal::Refusal::TooMany);
+        return Err(Refusal::TooMany);
     }
     if !relocates {
         return close_list(bytes, places, n, false, v, store, slots, table);

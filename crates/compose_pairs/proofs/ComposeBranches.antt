@@ -1,8 +1,8 @@
 -- Lemmas about one iteration and the end of `compose_all` and `pull_back_all`.
+use Rattle.std.specs.Prelude.{Option, Some, None}
 use mathlib.Core.Path.{◌≡◌, refl, sym, ap, ◌∙◌}
 use mathlib.Core.Bool.{Bool, true, false, cond}
 use mathlib.Core.List.{List, [], ◌∷◌, ◌++◌, map}
-use mathlib.Core.Option.{Option, none, some}
 use Prim.Native.Nat.{ℕ, ◌+◌, ◌*◌, ◌≤◌, ◌<◌}
 use native.Mathlib.Omega.{arith}
 use native.Mathlib.Numerals.{add-one}
@@ -70,8 +70,8 @@ pulled_snoc m l (y ∷ xs) x = pulled_snoc m (add_if_new_source l y.target (map_
 
 added_length : (l : List Pair) (t : Text) (o : Option Text) → length (add_if_new_source l t o) ≤ length l + 1
 unfolding add_if_new_source
-added_length l t none = omega arith
-added_length l t (some s) = go (has_source l s)
+added_length l t None = omega arith
+added_length l t (Some s) = go (has_source l s)
   where
     go : (b : Bool) → length (cond b l (l ++ record { source = s; target = t } ∷ [])) ≤ length l + 1
     go true = omega arith
@@ -79,8 +79,8 @@ added_length l t (some s) = go (has_source l s)
 
 added_bytes : (l : List Pair) (t : Text) (o : Option Text) → end_bytes (add_if_new_source l t o) ≤ end_bytes l + (image_length o + length t)
 unfolding add_if_new_source
-added_bytes l t none = omega arith
-added_bytes l t (some s) = go (has_source l s)
+added_bytes l t None = omega arith
+added_bytes l t (Some s) = go (has_source l s)
   where
     go : (b : Bool) → end_bytes (cond b l (l ++ record { source = s; target = t } ∷ [])) ≤ end_bytes l + (length s + length t)
     go true = omega arith
@@ -88,8 +88,8 @@ added_bytes l t (some s) = go (has_source l s)
 
 added_longer : (l : List Pair) (t : Text) (o : Option Text) → Longer l (add_if_new_source l t o)
 unfolding add_if_new_source
-added_longer l t none = (omega arith, omega arith)
-added_longer l t (some s) = go (has_source l s)
+added_longer l t None = (omega arith, omega arith)
+added_longer l t (Some s) = go (has_source l s)
   where
     go : (b : Bool) → Longer l (cond b l (l ++ record { source = s; target = t } ∷ []))
     go true = (omega arith, omega arith)

@@ -1,30 +1,18 @@
 -- Lemmas about sufficient capacity for composing, and about the branches of `sum_at_most` and `compose_fits`.
 use mathlib.Core.Path.{◌≡◌, refl, sym, ◌∙◌}
-use mathlib.Core.Bool.{Bool, true, false, not, ◌&&◌}
+use mathlib.Core.Bool.{Bool, true, false, ◌&&◌}
 use mathlib.Core.List.{List}
-use Prim.Native.Nat.{ℕ, ◌+◌, ◌-◌, ◌/◌, ◌≤◌, ◌<◌}
+use Prim.Native.Nat.{ℕ, ◌+◌, ◌/◌, ◌^◌, ◌≤◌, ◌<◌}
 use native.Mathlib.Omega.{arith}
 use lib.Dec.{leb}
 use lib.ListN.{length}
-use borrow.Author.Tests.{le-leb, lt-leb, leb-true, leb-false}
+use borrow.Author.Tests.{le-leb, lt-leb, leb-true}
 use Rattle.text.specs.Text.{Text}
-use Rattle.text.proofs.BoolLaws.{and_l, and_r, known_true, known_false}
+use Rattle.text.proofs.BoolLaws.{and_l, and_r, told}
 use Rattle.pair_list.specs.Pair.{Pair, every_end}
 use Rattle.pair_list.specs.Places.{pairs_in}
 use Rattle.pair_list.proofs.PlaceLaws.{pairs_in_length}
 use Rattle.compose_pairs.specs.ComposePairs.{at_most511, compose_fits, CanCompose}
-
--- `sum_at_most`
-module _ (a b most : ℕ) where
-  pub sum_over : most < a → false ≡ leb (a + b) most
-  sum_over h = sym (lt-leb (a + b) most (omega arith))
-
-  pub sum_left : a ≤ most → leb b (most - a) ≡ leb (a + b) most
-  sum_left h = go (leb b (most - a)) refl
-    where
-      go : (c : Bool) → leb b (most - a) ≡ c → c ≡ leb (a + b) most
-      go true e = sym (le-leb (a + b) most (omega (arith, leb-true b (most - a) e)))
-      go false e = sym (lt-leb (a + b) most (omega (arith, leb-false b (most - a) e)))
 
 -- `compose_fits`
 module _ (store : Text) (places : List ℕ) (n : ℕ) (istore : Text) (iplaces : List ℕ) (k room slots : ℕ) where
@@ -38,20 +26,24 @@ module _ (store : Text) (places : List ℕ) (n : ℕ) (istore : Text) (iplaces :
   unfolding compose_fits
   asked = rw (pairs_in_length store places n, pairs_in_length istore iplaces k) refl
 
-  module _ (a : Bool) (h : a ≡ leb (k + n) (room / 1534)) where
-    pub enough_room : not a ≡ true → false ≡ compose_fits outer inner room slots
-    enough_room e = sym (asked ∙ rw (known_false h e) refl)
+  pub fit_over : 2 ^ 64 ≤ k + n → room < 2 ^ 64 → false ≡ compose_fits outer inner room slots
+  fit_over h r = sym (asked ∙ rw (lt-leb (k + n) (room / 1534) (omega arith)) refl)
 
-    module _ (e : not a ≡ false) (b : Bool) (g : b ≡ leb (k + n) (slots / 4)) where
-      pub enough_slots : not b ≡ true → false ≡ compose_fits outer inner room slots
-      enough_slots f = sym (asked ∙ rw (known_true h e, known_false g f) refl)
+  pub fit_room : room / 1534 < k + n → false ≡ compose_fits outer inner room slots
+  fit_room h = sym (asked ∙ rw (lt-leb (k + n) (room / 1534) h) refl)
 
-      module _ (f : not b ≡ false) (c : Bool) (i : c ≡ every_end at_most511 outer) where
-        pub enough_outer : not c ≡ true → false ≡ compose_fits outer inner room slots
-        enough_outer l = sym (asked ∙ rw (known_true h e, known_true g f, known_false i l) refl)
+  module _ (h : k + n ≤ room / 1534) where
+    pub fit_slots : slots / 4 < k + n → false ≡ compose_fits outer inner room slots
+    fit_slots g = sym (asked ∙ rw (le-leb (k + n) (room / 1534) h, lt-leb (k + n) (slots / 4) g) refl)
 
-        pub enough_inner : not c ≡ false → (d : Bool) → d ≡ every_end at_most511 inner → d ≡ compose_fits outer inner room slots
-        enough_inner l d j = j ∙ sym (asked ∙ rw (known_true h e, known_true g f, known_true i l) refl)
+    module _ (g : k + n ≤ slots / 4) (c : Bool) (i : c ≡ every_end at_most511 outer) where
+      pub fit_outer : c ≡ false → false ≡ compose_fits outer inner room slots
+      fit_outer l = sym (asked ∙ rw (le-leb (k + n) (room / 1534) h, le-leb (k + n) (slots / 4) g, told i l) refl)
+
+      pub fit_inner : c ≡ true → (d : Bool) → d ≡ every_end at_most511 inner → d ≡ compose_fits outer inner room slots
+      fit_inner l d j = j ∙ sym (asked ∙ rw (le-leb (k + n) (room / 1534) h, le-leb (k + n) (slots / 4) g, told i l) refl)
+
+pub ruleset fitting = (fit_over, fit_room, fit_slots, fit_outer, fit_inner)
 
 -- `compose_fits` and the facts that it tests.
 module _ (store : Text) (places : List ℕ) (n : ℕ) (istore : Text) (iplaces : List ℕ) (k : ℕ) (bytes : Text) (slots : List ℕ) where

@@ -1,8 +1,9 @@
 -- Lemmas about every end of a composed list, from what plain mapping makes of each end.
+use Rattle.std.specs.Prelude.{Option, Some, None}
+use Rattle.std.specs.Option.{unwrap_or}
 use mathlib.Core.Path.{◌≡◌, refl}
 use mathlib.Core.Bool.{Bool, true, false, cond}
 use mathlib.Core.List.{List, [], ◌∷◌, ◌++◌, map}
-use mathlib.Core.Option.{Option, none, some, get_or}
 use Rattle.text.specs.Text.{Text, is_nil}
 use Rattle.text.proofs.BoolLaws.{and_l, and_r}
 use Rattle.pair_list.specs.Pair.{Pair, every_end}
@@ -12,18 +13,18 @@ use Rattle.map_spec.specs.Compose.{composed_pair, has_source, add_if_new_source,
 -- If the ends of both maps are `ok`, and plain mapping takes such ends to texts that pass, every end of the composed list `passes`.
 module _ (ok passes : Text → Bool) (weaker : (t : Text) → ok t ≡ true → passes t ≡ true) (nil : passes [] ≡ true) where
   abbrev Makes : (Text → Option Text) → Type 0
-  Makes f = (t q : Text) → ok t ≡ true → f t ≡ some q → passes q ≡ true
+  Makes f = (t q : Text) → ok t ≡ true → f t ≡ Some q → passes q ≡ true
 
   -- The first half of the list.
   composed_passes : (m : Map) → Makes (map_source_to_target m) → (x : Pair) → ok x.target ≡ true → passes (composed_pair m x).target ≡ true
   unfolding composed_pair
   composed_passes m f x e = go (is_nil x.target)
     where
-      some_passes : (o : Option Text) → ((q : Text) → o ≡ some q → passes q ≡ true) → passes (get_or o []) ≡ true
-      some_passes none g = nil
-      some_passes (some q) g = g q refl
+      some_passes : (o : Option Text) → ((q : Text) → o ≡ Some q → passes q ≡ true) → passes (unwrap_or o []) ≡ true
+      some_passes None g = nil
+      some_passes (Some q) g = g q refl
 
-      go : (b : Bool) → passes (cond b [] (get_or (map_source_to_target m x.target) [])) ≡ true
+      go : (b : Bool) → passes (cond b [] (unwrap_or (map_source_to_target m x.target) [])) ≡ true
       go true = nil
       go false = some_passes (map_source_to_target m x.target) (λ q. f x.target q e)
 
@@ -44,11 +45,11 @@ module _ (ok passes : Text → Bool) (weaker : (t : Text) → ok t ≡ true → 
       let b : passes y.target ≡ true = search (and_l, and_r) in
       rw (a, b) (one_more l s t (search (and_l, and_r)) h k)
 
-  added_passes : (l : List Pair) (t : Text) (o : Option Text) → every_end passes l ≡ true → passes t ≡ true → ((q : Text) → o ≡ some q → passes q ≡ true)
+  added_passes : (l : List Pair) (t : Text) (o : Option Text) → every_end passes l ≡ true → passes t ≡ true → ((q : Text) → o ≡ Some q → passes q ≡ true)
       → every_end passes (add_if_new_source l t o) ≡ true
   unfolding add_if_new_source
-  added_passes l t none e h f = e
-  added_passes l t (some s) e h f = go (has_source l s)
+  added_passes l t None e h f = e
+  added_passes l t (Some s) e h f = go (has_source l s)
     where
       go : (b : Bool) → every_end passes (cond b l (l ++ record { source = s; target = t } ∷ [])) ≡ true
       go true = e

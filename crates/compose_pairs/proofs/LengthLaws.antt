@@ -1,8 +1,9 @@
 -- Lemmas about the length of a composed end: at most two ends and a slash.
+use Rattle.std.specs.Prelude.{Option, Some, None}
+use Rattle.std.specs.Option.{unwrap_or}
 use mathlib.Core.Path.{◌≡◌, refl}
 use mathlib.Core.Bool.{Bool, true, false, cond, ◌&&◌}
 use mathlib.Core.List.{List, [], ◌∷◌, ◌++◌}
-use mathlib.Core.Option.{Option, none, some, get_or}
 use Prim.Native.Nat.{ℕ, ◌+◌, ◌*◌, ◌≤◌, ◌<◌}
 use native.Mathlib.Omega.{arith}
 use lib.ListN.{length}
@@ -30,23 +31,23 @@ replace_length : (p s t : Text) → image_length (replace_prefix p s t) ≤ leng
 unfolding replace_prefix
 replace_length p s t = go (strip_prefix s p) refl
   where
-    some_is : (r : Text) (b : Bool) → p ≡ s ++ r → image_length (cond b (some (join s t r)) none) ≤ length t + 1 + length p
+    some_is : (r : Text) (b : Bool) → p ≡ s ++ r → image_length (cond b (Some (join s t r)) None) ≤ length t + 1 + length p
     some_is r true e = join_within p s t r e
     some_is r false e = omega arith
 
     go : (o : Option Text) → strip_prefix s p ≡ o → image_length (replace_prefix p s t) ≤ length t + 1 + length p
-    go none e = rw e (omega arith)
-    go (some r) e = rw e (some_is r (can_follow s r) (after_up s p r e))
+    go None e = rw e (omega arith)
+    go (Some r) e = rw e (some_is r (can_follow s r) (after_up s p r e))
 
 by_length : (k : ℕ) (m : Map) (a b : ℕ → Text) (p : Text) (o : Option ℕ) → ((i : ℕ) → length (b i) ≤ k) → length p ≤ k → image_length (map_by m a b p o) ≤ 2 * k + 1
-by_length k m a b p none h l = go m.mark
+by_length k m a b p None h l = go m.mark
   where
-    go : (c : Bool) → image_length (cond c (some p) none) ≤ 2 * k + 1
+    go : (c : Bool) → image_length (cond c (Some p) None) ≤ 2 * k + 1
     go true = omega arith
     go false = omega arith
-by_length k m a b p (some i) h l = go (is_nil (map_target m i))
+by_length k m a b p (Some i) h l = go (is_nil (map_target m i))
   where
-    go : (c : Bool) → image_length (cond c none (replace_prefix p (a i) (b i))) ≤ 2 * k + 1
+    go : (c : Bool) → image_length (cond c None (replace_prefix p (a i) (b i))) ≤ 2 * k + 1
     go true = omega arith
     go false = omega (arith, replace_length p (a i) (b i), h i)
 
@@ -62,11 +63,11 @@ pub composed_length : (m : Map) (t : Text) → every_end at_most511 m.pairs ≡ 
 unfolding composed_target map_plainly
 composed_length m t e l = go (is_nil t)
   where
-    some_is : (o : Option Text) → image_length o ≤ 1023 → length (get_or o []) ≤ 1023
-    some_is none h = omega arith
-    some_is (some q) h = h
+    some_is : (o : Option Text) → image_length o ≤ 1023 → length (unwrap_or o []) ≤ 1023
+    some_is None h = omega arith
+    some_is (Some q) h = h
 
-    go : (c : Bool) → length (cond c [] (get_or (map_source_to_target m t) [])) ≤ 1023
+    go : (c : Bool) → length (cond c [] (unwrap_or (map_source_to_target m t) [])) ≤ 1023
     go true = omega arith
     go false = some_is (map_source_to_target m t) (plain_length false m t e l)
 
@@ -84,7 +85,7 @@ short_bounded (x ∷ l) e =
     (short_bounded l (and_r (at_most255 x.source && at_most255 x.target) (all_short l) e))
 
 -- The ends of a list composed of ends of at most 255 bytes have at most 511 bytes.
-short_needed : (q : Text) (o : Option Text) → o ≡ some q → image_length o ≤ 511 → at_most511 q ≡ true
+short_needed : (q : Text) (o : Option Text) → o ≡ Some q → image_length o ≤ 511 → at_most511 q ≡ true
 short_needed q o e h = le-leb (length q) 511 (rw e at h)
 
 pub composed_bounded : (outer inner : Map) → all_short outer.pairs ≡ true → all_short inner.pairs ≡ true → every_end at_most511 (composed_pairs outer inner) ≡ true

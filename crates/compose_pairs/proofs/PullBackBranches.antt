@@ -1,8 +1,9 @@
 -- Lemmas about the branches of `has_joined`, `add_joined` and `pull_back_pair`.
+use Rattle.std.specs.Prelude.{Option, Some, None}
+use Rattle.std.specs.Bool.{MatchBool}
 use mathlib.Core.Path.{◌≡◌, refl, sym, ap, ◌∙◌}
 use mathlib.Core.Bool.{Bool, true, false, not, cond, ◌&&◌}
 use mathlib.Core.List.{List, [], ◌∷◌, ◌++◌, append_assoc}
-use mathlib.Core.Option.{Option, none, some}
 use Prim.Native.Nat.{ℕ, ◌+◌, ◌*◌, ◌-◌, ◌≤◌, ◌<◌}
 use native.Mathlib.Omega.{arith}
 use lib.Dec.{eqb}
@@ -19,7 +20,7 @@ use Rattle.map_spec.specs.Compose.{has_source, add_if_new_source}
 use Rattle.pair_list_write.specs.Packed.{PackedList}
 use Rattle.pair_list_write.proofs.PushBranches.{pair_done}
 use Rattle.pair_list_write.proofs.PackedLaws.{packed_more}
-use Rattle.pair_buffer.proofs.SourceLaws.{source_begin, source_found, source_on, source_end}
+use Rattle.pair_buffer.proofs.SourceLaws.{source_in}
 use Rattle.compose_pairs.specs.ComposePairs.{path_if_marked, image_length}
 
 -- `is_joined`
@@ -60,24 +61,25 @@ equal_swap a b = go (equal a b) (equal b a) refl refl
     go false true e f = sym e ∙ ap (equal a) (equal_is b a f) ∙ equal_self a
     go false false e f = refl
 
-module _ (store : Text) (places : List ℕ) (q : Text) (i : ℕ) (k : Text) (e : k ≡ key_at store places false i) (b : Bool) (h : b ≡ equal q k) where
-  pub join_found : (n : ℕ) → i < n → b ≡ true → true ≡ has_source (pairs_in store places n) q
-  join_found n l t = source_found store places q i k e b (h ∙ equal_swap q k) n l t
-
-  pub join_on : b ≡ false → has_source (pairs_in store places i) q ≡ false → has_source (pairs_in store places (i + 1)) q ≡ false
-  join_on f g = source_on store places q i k e b (h ∙ equal_swap q k) f g
-
-pub ruleset joins = (source_begin, join_found, join_on, source_end)
+module _ (store : Text) (places : List ℕ) (q : Text) (n : ℕ) (r : Bool) where
+  pub join_in : MatchBool r ((k : ℕ) × (k < n) × (equal q (key_at store places false k) ≡ true)) ((k : ℕ) → k < n → equal q (key_at store places false k) ≡ false)
+      → r ≡ has_source (pairs_in store places n) q
+  join_in w = source_in store places q n r (go r w)
+    where
+      go : (b : Bool) → MatchBool b ((k : ℕ) × (k < n) × (equal q (key_at store places false k) ≡ true)) ((k : ℕ) → k < n → equal q (key_at store places false k) ≡ false)
+          → MatchBool b ((k : ℕ) × (k < n) × (equal (key_at store places false k) q ≡ true)) ((k : ℕ) → k < n → equal (key_at store places false k) q ≡ false)
+      go true w = (w.0, w.1, equal_swap (key_at store places false w.0) q ∙ w.2)
+      go false w = λ k l. equal_swap (key_at store places false k) q ∙ w k l
 
 -- `add_joined`: q is the joined path.
 module _ (l : List Pair) (n at : ℕ) (bytes : Text) (slots : List ℕ) (h : PackedList l n at bytes slots bytes slots) (t q : Text) (b : Bool) (g : b ≡ has_source l q) where
-  pub add_there : b ≡ true → PackedList (add_if_new_source l t (some q)) n at bytes slots bytes slots
+  pub add_there : b ≡ true → PackedList (add_if_new_source l t (Some q)) n at bytes slots bytes slots
   unfolding add_if_new_source
   add_there f = rw (told g f) h
 
   pub add_new : b ≡ false → at + (length q + length t) ≤ length bytes → 4 * n + 4 ≤ length slots → (k : ℕ) → k ≡ length q → (once twice : Text) (slots' : List ℕ)
       → once ≡ written_if_fits at q bytes → twice ≡ written_if_fits (at + k) t once → slots' ≡ written_if_fits (4 * n) (at ∷ k ∷ (at + k) ∷ length t ∷ []) slots
-      → PackedList (add_if_new_source l t (some q)) (n + 1) (at + k + length t) bytes slots twice slots'
+      → PackedList (add_if_new_source l t (Some q)) (n + 1) (at + k + length t) bytes slots twice slots'
   unfolding add_if_new_source
   add_new f room more k e once twice slots' o u v =
       let d = pair_done q t at n (length t) bytes once twice slots slots' room more refl o (rw e at u) (rw e at v) in
@@ -85,22 +87,22 @@ module _ (l : List Pair) (n at : ℕ) (bytes : Text) (slots : List ℕ) (h : Pac
 
 -- `pull_back_pair`: o is the outer source mapped back through the inner map.
 module _ (s : Text) (o : Option Text) (mark : Bool) (e : o ≡ path_if_marked mark s) where
-  pub pull_unmarked : not mark ≡ true → o ≡ none
+  pub pull_unmarked : not mark ≡ true → o ≡ None
   pull_unmarked k = e ∙ rw (not_true mark k) refl
 
   -- The source joined to an empty prefix, with an empty remainder, is the source.
-  pub pull_marked : not mark ≡ false → o ≡ some (join [] s [])
+  pub pull_marked : not mark ≡ false → o ≡ Some (join [] s [])
   pull_marked k = e ∙ rw (not_false mark k, join_none [] s) refl
 
 module _ (l : List Pair) (t : Text) (o : Option Text) (n at : ℕ) (bytes : Text) (slots : List ℕ) where
-  pub pull_none : o ≡ none → PackedList l n at bytes slots bytes slots → PackedList (add_if_new_source l t o) n at bytes slots bytes slots
+  pub pull_none : o ≡ None → PackedList l n at bytes slots bytes slots → PackedList (add_if_new_source l t o) n at bytes slots bytes slots
   unfolding add_if_new_source
   pull_none e h = rw e h
 
-  module _ (q : Text) (e : o ≡ some q) where
+  module _ (q : Text) (e : o ≡ Some q) where
     pub pull_fits : at + (image_length o + length t) ≤ length bytes → at + (length q + length t) ≤ length bytes
     pull_fits h = rw e at h
 
-    pub pull_some : (n' at' : ℕ) (bytes' : Text) (slots' : List ℕ) → PackedList (add_if_new_source l t (some q)) n' at' bytes slots bytes' slots'
+    pub pull_some : (n' at' : ℕ) (bytes' : Text) (slots' : List ℕ) → PackedList (add_if_new_source l t (Some q)) n' at' bytes slots bytes' slots'
         → PackedList (add_if_new_source l t o) n' at' bytes slots bytes' slots'
     pull_some n' at' bytes' slots' d = rw e d

@@ -1,6 +1,5 @@
 -- Method: The contents of the buffers in which the list of pairs of a composed map is built, and the capacity they need.
-use Rattle.std.specs.Prelude.{◌≡◌, Bool, true, false, cond, ◌&&◌, List, [], ℕ, ◌+◌, ◌/◌, leb, length}
-use Rattle.std.proofs.Math.Option.{Option, none, some}
+use Rattle.std.specs.Prelude.{◌≡◌, Bool, true, false, cond, ◌&&◌, List, [], ℕ, ◌+◌, ◌/◌, leb, length, Option, Some, None}
 use Rattle.text.specs.Text.{Text, written_if_fits}
 use Rattle.pair_list.specs.Pair.{Pair, every_end}
 use Rattle.pair_list.specs.Places.{end_bytes}
@@ -8,8 +7,6 @@ use Rattle.map_spec.specs.Map.{Map, map_source_to_target, map_target_to_source}
 use Rattle.map_spec.specs.Compose.{composed_pair, composed_pairs}
 use Rattle.pair_list_write.specs.Packed.{ScratchRoom}
 use Rattle.pair_buffer.specs.Ends.{at_most}
-use Rattle.compose_pairs.specs.declared.Image.{Image}
-use Rattle.compose_pairs.specs.declared.Image.TheVariants.{Nothing, Made}
 use Rattle.compose_pairs.specs.declared.Built.{Built}
 
 -- Plain mapping: backward (target to source) if the flag is set.
@@ -20,22 +17,22 @@ map_plainly true m p = map_target_to_source m p
 
 -- The path itself, if the map has the root-identity mark.
 abbrev pub path_if_marked : Bool → Text → Option Text
-path_if_marked mark p = cond mark (some p) none
+path_if_marked mark p = cond mark (Some p) None
 
 -- The result of a mapping as the code returns it: no path, or the length of the path.
-abbrev pub image : Option Text → Image
-image none = Nothing
-image (some q) = Made (length q)
+abbrev pub image : Option Text → Option ℕ
+image None = None
+image (Some q) = Some (length q)
 
 -- The number of bytes that the result of a mapping needs.
 abbrev pub image_length : Option Text → ℕ
-image_length none = 0
-image_length (some q) = length q
+image_length None = 0
+image_length (Some q) = length q
 
 -- The buffer after a mapping: the path written from offset `at`.
 abbrev pub image_buffer : ℕ → Option Text → Text → Text
-image_buffer at none out = out
-image_buffer at (some q) out = written_if_fits at q out
+image_buffer at None out = out
+image_buffer at (Some q) out = written_if_fits at q out
 
 -- The target of an inner pair mapped through the outer map; empty if the outer map yields no path.
 unfoldable pub composed_target : Map → Text → Text

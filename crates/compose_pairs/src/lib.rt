@@ -2,8 +2,7 @@
 // buffer (the two loops of Rust's `MapFunction::compose`).
 #![tactic(auto)]
 
-ghost use Rattle.std.specs.Prelude.{◌≡◌, true, false, map as mapped, ◌+◌, ◌*◌, ◌≤◌, leb, length};
-ghost use Rattle.std.proofs.Math.Option.{some};
+ghost use Rattle.std.specs.Prelude.{◌≡◌, true, false, map as mapped, ◌+◌, ◌*◌, ◌≤◌, leb, length, Some};
 ghost use Rattle.text.specs.Text.{equal, written, written_if_fits};
 ghost use Rattle.path_join.specs.Join.{join};
 ghost use Rattle.pair_list.specs.Pair.{pair};
@@ -13,13 +12,6 @@ ghost use Rattle.map_spec.specs.Map.{lent_map};
 ghost use Rattle.map_spec.specs.Compose.{composed_pair, has_source, add_if_new_source, pulled_back, composed_pairs};
 ghost use Rattle.compose_pairs.specs.ComposePairs.{map_plainly, path_if_marked, image, image_length, image_buffer, composed_target, compose_fits, CanCompose, built_of, composed_or_none};
 
-// The result of mapping a text: no path, or the length of the path made.
-#[derive(Clone, Copy)]
-enum Image {
-    Nothing,
-    Made(usize),
-}
-
 // Writes the new prefix joined with the remainder at offset `at` and returns its length.
 fn join_at(old: &[u8], new: &[u8], remainder: &[u8], at: usize, bytes: &mut [u8]) -> usize
     requires { at + length (join old.now new.now remainder.now) ≤ length bytes.old }
@@ -27,23 +19,19 @@ fn join_at(old: &[u8], new: &[u8], remainder: &[u8], at: usize, bytes: &mut [u8]
     ensures bytes_after { bytes.new ≡ written_if_fits at
         (join old.now new.now remainder.now) bytes.old }
 {
-    let fit = path_join::join(old, new, remainder, &mut bytes[at..]);
-    match fit {
-        text::Fit::Written(n) => n,
-        text::Fit::Over => 0,
-    }
+    path_join::join(old, new, remainder, &mut bytes[at..]).unwrap_or(0)
 }
 
 // Writes the path itself at offset `at` if the map has the mark.
-fn keep_at(mark: bool, path: &[u8], at: usize, bytes: &mut [u8]) -> Image
+fn keep_at(mark: bool, path: &[u8], at: usize, bytes: &mut [u8]) -> Option<usize>
     ensures value { result ≡ image (path_if_marked mark path.now) }
     ensures bytes_after { bytes.new ≡ image_buffer at (path_if_marked mark path.now) bytes.old }
 {
     if !mark {
-        return Image::Nothing;
+        return None;
     }
     text::write_at(path, at, bytes);
-    Image::Made(path.len())
+    Some(path.len())
 }
 
 // Maps a text plainly from source to target and writes the result at offset `at`.
@@ -55,7 +43,7 @@ fn map_at(
     path: &[u8],
     at: usize,
     bytes: &mut [u8],
-) -> Image
+) -> Option<usize>
     requires { at + image_length (map_plainly false (lent_map store.now places.now n mark) path.now) ≤ length
         bytes.old }
     ensures value { result ≡ image (map_plainly false (lent_map store.now places.now n mark)
@@ -64,18 +52,16 @@ fn map_at(
         (map_plainly false (lent_map store.now places.now n mark) path.now)
         bytes.old }
 {
-    let f = map_lookup::best_prefix(store, places, n, false, path);
-    if !f.found {
+    let Some(i) = map_lookup::best_prefix(store, places, n, false, path) else {
         return keep_at(mark, path, at, bytes);
-    }
-    let i = f.at;
+    };
     let new = pair_list::key_at(store, places, i, true);
-    if new.len() == 0 {
-        return Image::Nothing;
+    if new.is_empty() {
+        return None;
     }
     let old = pair_list::key_at(store, places, i, false);
     let k = old.len();
-    Image::Made(join_at(old, new, &path[k..], at, bytes))
+    Some(join_at(old, new, &path[k..], at, bytes))
 }
 
 // Maps the target of an inner pair through the outer map, writes it at offset `at` and returns its length. No
@@ -97,14 +83,10 @@ fn composed_target_at(
         (composed_target (lent_map store.now places.now n mark) target.now)
         bytes.old }
 {
-    if target.len() == 0 {
+    if target.is_empty() {
         return 0;
     }
-    let a = map_at(store, places, n, mark, target, at, bytes);
-    match a {
-        Image::Nothing => 0,
-        Image::Made(k) => k,
-    }
+    map_at(store, places, n, mark, target, at, bytes).unwrap_or(0)
 }
 
 // Appends an inner pair with its target mapped through the outer map and returns the offset after it.
@@ -140,10 +122,7 @@ fn is_joined(old: &[u8], new: &[u8], remainder: &[u8], text: &[u8]) -> bool
     ensures { result ≡ equal (join old.now new.now remainder.now) text.now }
 {
     let k = remainder.len();
-    if k < 2 {
-        return path_join::is_join(old, new, remainder, text);
-    }
-    if !text::last_is(text, remainder[k - 1]) {
+    if 2 <= k && !text::last_is(text, remainder[k - 1]) {
         return false;
     }
     path_join::is_join(old, new, remainder, text)
@@ -161,19 +140,12 @@ fn has_joined(
     ensures { result ≡ has_source (pairs_in bytes.now slots.now n)
         (join old.now new.now remainder.now) }
 {
-    let mut i = 0;
-    while i < n {
-        if is_joined(
-            old,
-            new,
-            remainder,
-            pair_list::key_at(bytes, slots, i, false),
-        ) {
-            return true;
-        }
-        i += 1;
-    }
-    false
+    (0..n).any(|i| is_joined(
+        old,
+        new,
+        remainder,
+        pair_list::key_at(bytes, slots, i, false),
+    ))
 }
 
 // The number of pairs and bytes of a list in a buffer.
@@ -198,7 +170,7 @@ fn add_joined(
     requires t_in_bounds { b.at + (length (join old.now new.now remainder.now) + length t.now) ≤ length bytes.old }
     requires n_in_bounds { 4 * b.n + 4 ≤ length slots.old }
     ensures { PackedList (add_if_new_source (pairs_in bytes.old slots.old b.n)
-        t.now (some (join old.now new.now remainder.now))) result.n result.at
+        t.now (Some (join old.now new.now remainder.now))) result.n result.at
         bytes.old slots.old bytes.new slots.new }
 {
     let at = b.at;
@@ -239,14 +211,12 @@ fn pull_back_pair(
         s.now)) result.n result.at bytes.old slots.old bytes.new
         slots.new }
 {
-    let f = map_lookup::best_prefix(store, places, count, true, s);
-    if !f.found {
+    let Some(i) = map_lookup::best_prefix(store, places, count, true, s) else {
         if !mark {
             return b;
         }
         return add_joined(b"", s, b"", t, b, bytes, slots);
-    }
-    let i = f.at;
+    };
     let old = pair_list::key_at(store, places, i, true);
     let new = pair_list::key_at(store, places, i, false);
     let k = old.len();
@@ -274,12 +244,10 @@ fn compose_all(
     ensures upper_bound { result ≤ 1534 * inner }
 {
     let mut at = 0;
-    let mut i = 0;
-    while i < inner {
+    for i in 0..inner {
         let s = pair_list::key_at(istore, iplaces, i, false);
         let t = pair_list::key_at(istore, iplaces, i, true);
         at = compose_pair(store, places, count, mark, s, t, i, at, bytes, slots);
-        i += 1;
     }
     at
 }
@@ -307,13 +275,11 @@ fn pull_back_all(
         (pairs_in store.now places.now count)) result.n result.at bytes.old
         slots.old bytes.new slots.new }
 {
-    let mut b = Built { n: inner, at: at };
-    let mut i = 0;
-    while i < count {
+    let mut b = Built { n: inner, at };
+    for i in 0..count {
         let s = pair_list::key_at(store, places, i, false);
         let t = pair_list::key_at(store, places, i, true);
         b = pull_back_pair(istore, iplaces, inner, mark, s, t, b, bytes, slots);
-        i += 1;
     }
     b
 }
@@ -345,18 +311,9 @@ fn compose_both(
     )
 }
 
-// Returns whether a + b ≤ most, without overflow.
-fn sum_at_most(a: usize, b: usize, most: usize) -> bool
-    ensures { result ≡ leb (a + b) most }
-{
-    if most < a {
-        return false;
-    }
-    b <= most - a
-}
-
 // Returns whether all ends of both lists have at most 511 bytes and the capacities suffice for the composed
 // list.
+#[tactic(auto, using(crate::proofs::ComposeFitsBranches::fitting))]
 fn compose_fits(
     store: &[u8],
     places: &[usize],
@@ -370,16 +327,13 @@ fn compose_fits(
     ensures { result ≡ compose_fits (pairs_in store.now places.now count)
         (pairs_in istore.now iplaces.now inner) room slots }
 {
-    if !sum_at_most(inner, count, room / 1534) {
+    let Some(n) = inner.checked_add(count) else {
         return false;
-    }
-    if !sum_at_most(inner, count, slots / 4) {
-        return false;
-    }
-    if !pair_buffer::all_at_most(store, places, count, 511) {
-        return false;
-    }
-    pair_buffer::all_at_most(istore, iplaces, inner, 511)
+    };
+    n <= room / 1534
+        && n <= slots / 4
+        && pair_buffer::all_at_most(store, places, count, 511)
+        && pair_buffer::all_at_most(istore, iplaces, inner, 511)
 }
 
 // Writes the composed list of an outer and an inner map if the capacity suffices; otherwise writes nothing

@@ -1,14 +1,9 @@
 -- Meaning: One line of `frames` as a call across the C interface: the counters kept between two lines are five plain numbers in a lent buffer. The
 -- caller may have altered them and the memory beside them, so what a line uses of them is validated.
-use Rattle.std.specs.Prelude.{ℕ, ◌+◌, Bool, cond, ◌&&◌, List, [], ◌∷◌, ◌≡◌, leb, length, get_or}
-use Rattle.std.proofs.Math.Option.{Option, none, some}
+use Rattle.std.specs.Prelude.{ℕ, ◌+◌, Bool, cond, ◌&&◌, List, [], ◌∷◌, ◌≡◌, leb, length, get_or, Result, Ok, Err, Option, Some, None, ⊤}
 use Rattle.text.specs.Text.{Text, written}
 use Rattle.refusal.specs.declared.Refusal.{Refusal}
 use Rattle.refusal.specs.declared.Refusal.TheVariants.{NoRoom}
-use Rattle.refusal.specs.declared.Validation.{Validation}
-use Rattle.refusal.specs.declared.Validation.TheVariants.{Passed, Refused as RefusedValidation}
-use Rattle.refusal.specs.declared.Reply.{Reply}
-use Rattle.refusal.specs.declared.Reply.TheVariants.{Written, Refused}
 use Rattle.refusal.specs.Refusal.{refusal_number, refused_or}
 use Rattle.line_reader.specs.Lines.{Line, line_in_buffer}
 use Rattle.frames_spec.specs.Frame.{Frame, frame}
@@ -47,14 +42,14 @@ abbrev pub has_line_room : List ℕ → ℕ → Bool
 has_line_room kept room = leb 5 (length kept) && leb max_answer_line room
 
 -- Question 5. Question 9 is put first: a bad frame is answered FF09 and a newline, and needs only the five bytes for that.
-unfoldable pub validate_line_call : Option Frame → List ℕ → Text → Validation
-validate_line_call none kept out = cond (leb 5 (length out)) Passed (RefusedValidation NoRoom)
-validate_line_call (some f) kept out = cond (has_line_room kept (length out)) Passed (RefusedValidation NoRoom)
+unfoldable pub validate_line_call : Option Frame → List ℕ → Text → Result ⊤ Refusal
+validate_line_call None kept out = cond (leb 5 (length out)) (Ok tt) (Err NoRoom)
+validate_line_call (Some f) kept out = cond (has_line_room kept (length out)) (Ok tt) (Err NoRoom)
 
 -- The reply of the call: the length of the reply line.
-unfoldable pub line_reply : Line → List ℕ → FramesMemory → Text → Reply
+unfoldable pub line_reply : Line → List ℕ → FramesMemory → Text → Result ℕ Refusal
 unfolding parse_line validate_line_call answer_line
-line_reply l kept m out = refused_or (validate_line_call (parse_line l) kept out) Refused (Written (length (answer_line step_frame_checked m l)))
+line_reply l kept m out = refused_or (validate_line_call (parse_line l) kept out) Err (Ok (length (answer_line step_frame_checked m l)))
 
 -- The memory after the call; unchanged if it was refused.
 unfoldable pub line_memory : Line → List ℕ → FramesMemory → Text → FramesMemory
@@ -68,8 +63,8 @@ line_out l kept m out = refused_or (validate_line_call (parse_line l) kept out) 
 
 -- The number buffer after a frame that leaves these counters: the five numbers over its beginning; unchanged by a bad frame.
 abbrev pub counters_after : Option Frame → Counters → List ℕ → List ℕ
-counters_after none k kept = kept
-counters_after (some f) k kept = written (counter_numbers k) kept
+counters_after None k kept = kept
+counters_after (Some f) k kept = written (counter_numbers k) kept
 
 -- The number buffer after the call; unchanged if it was refused.
 unfoldable pub line_counters : Line → List ℕ → FramesMemory → Text → List ℕ
@@ -81,13 +76,13 @@ line_counters l kept m out =
 -- or a refusal), there is no space, or the line is processed.
 unfoldable pub line_check : Option Frame → List ℕ → FramesMemory → ℕ → LineCheck
 unfolding validate_use
-line_check none kept m room = Short 255 9
-line_check (some (frame k a)) kept m room =
+line_check None kept m room = Short 255 9
+line_check (Some (frame k a)) kept m room =
     cond (has_line_room kept room) (refused_or (validate_use m a) (λ (x : Refusal). Short (k + 128) (refusal_number x)) Open) NoSpace
 
 -- The reply of writing a line of two bytes: its length is 5.
-abbrev pub short_reply : Text → Reply
-short_reply out = cond (leb 5 (length out)) (Written 5) (Refused NoRoom)
+abbrev pub short_reply : Text → Result ℕ Refusal
+short_reply out = cond (leb 5 (length out)) (Ok 5) (Err NoRoom)
 
 -- The output buffer after writing a line of two bytes.
 unfoldable pub short_out : ℕ → ℕ → Text → Text

@@ -8,7 +8,10 @@ ghost use Rattle.frames_spec.specs.Input.{parse_line, next_line};
 ghost use Rattle.frames_memory.specs.Memory.{step_frame_in};
 ghost use Rattle.ffi_line.specs.LineCall.{counters_of, counter_numbers, lent_memory, whole_line, has_line_room, line_reply, line_memory, line_out, line_counters, line_check, short_reply, short_out, ProcessesLine};
 
-// The result of the questions put before a line is processed.
+use refusal::Refusal;
+
+// The result of the questions put before a line is processed. An enum and no `Result`: each of the three cases
+// ends in another way, and none is passed on by `?`.
 #[derive(Clone, Copy)]
 pub enum LineCheck {
     // The reply line has only these two bytes, and nothing else is written.
@@ -52,13 +55,11 @@ fn write_counters(k: frames_memory::Counters, kept: &mut [usize])
 }
 
 // Returns whether there is space for five numbers and the longest reply line (question 5).
+#[tactic(auto, unfolding(crate::specs::LineCall::has_line_room))]
 fn has_line_room(kept: &[usize], room: usize) -> bool
     ensures { result ≡ has_line_room kept.now room }
 {
-    if kept.len() < 5 {
-        return false;
-    }
-    frame_answer::MAX_ANSWER_LINE <= room
+    5 <= kept.len() && frame_answer::MAX_ANSWER_LINE <= room
 }
 
 // Puts the questions to a line: 9 to its frame, 5 to the buffers, 1 to 4 to what the frame uses of the memory.
@@ -78,8 +79,7 @@ fn check_line(
 {
     let mut frame = [0u8; 2048];
     let n = frame_decode::decode_line(line, line.len(), &mut frame);
-    let d = frame_decode::decode_frame(&frame[..n]);
-    let frame_decode::DecodedFrame::Frame(kind, header) = d else {
+    let Some((kind, header)) = frame_decode::decode_frame(&frame[..n]) else {
         return LineCheck::Short(255, 9);
     };
     if !has_line_room(kept, room) {
@@ -96,26 +96,23 @@ fn check_line(
         slots,
         table,
     );
-    if let refusal::Validation::Refused(x) = q {
+    if let Err(x) = q {
         return LineCheck::Short(kind + 128, frame_apply::number_byte(x));
     }
     LineCheck::Open
 }
 
 // Writes the reply line of two bytes to the beginning of `out`.
-fn write_short(head: u8, answer: u8, out: &mut [u8]) -> refusal::Reply
+fn write_short(head: u8, answer: u8, out: &mut [u8]) -> Result<usize, Refusal>
     ensures value { result ≡ short_reply out.old }
     ensures out_after { out.new ≡ short_out head answer out.old }
 {
     if out.len() < 5 {
-        return refusal::Reply::Refused(refusal::Refusal::NoRoom);
+        return Err(Refusal::NoRoom);
     }
-    let mut first = [0u8; 2];
-    first[0] = head;
-    first[1] = answer;
-    hex_digits::encode(&first, 0, out);
+    hex_digits::encode(&[head, answer], 0, out);
     text::write_at(b"\n", 4, out);
-    refusal::Reply::Written(5)
+    Ok(5)
 }
 
 // Processes a line without validating the memory, and returns the length of the reply line.
@@ -169,7 +166,7 @@ pub fn answer_whole(
     slots: &mut [usize],
     table: &mut [usize],
     out: &mut [u8],
-) -> refusal::Reply
+) -> Result<usize, Refusal>
     ensures value { result ≡ line_reply (whole_line line.now) kept.old
         (lent_memory kept.old bytes.old places.old store.old
         slots.old table.old) out.old }
@@ -187,9 +184,7 @@ pub fn answer_whole(
     let c = check_line(line, kept, bytes, places, store, slots, table, out.len());
     match c {
         LineCheck::Short(head, answer) => write_short(head, answer, out),
-        LineCheck::NoSpace => refusal::Reply::Refused(refusal::Refusal::NoRoom),
-        LineCheck::Open => refusal::Reply::Written(process_line(
-            line, kept, bytes, places, store, slots, table, out,
-        )),
+        LineCheck::NoSpace => Err(Refusal::NoRoom),
+        LineCheck::Open => Ok(process_line(line, kept, bytes, places, store, slots, table, out)),
     }
 }

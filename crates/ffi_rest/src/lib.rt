@@ -3,39 +3,34 @@
 #![tactic(auto)]
 
 ghost use Rattle.std.specs.Prelude.{◌≡◌};
-ghost use Rattle.ffi_rest.specs.RestCode.{rest_code, rest_test_code, rest_first, carried_value, carried_code};
+ghost use Rattle.ffi_rest.specs.RestCode.{rest_code, rest_test_code, carried_value, carried_code};
+
+use refusal::Refusal;
 
 // Encodes where the rest begins.
-fn rest_code(rest: path_rest::Rest) -> usize
+#[tactic(auto, unfolding(crate::specs::RestCode::rest_code))]
+fn rest_code(rest: Option<usize>) -> usize
     ensures { result ≡ rest_code rest }
 {
     match rest {
-        path_rest::Rest::From(n) => 65536 * (n % 1099511627776) + 256,
-        path_rest::Rest::Nothing => 0,
+        Some(n) => 65536 * (n % 1099511627776) + 256,
+        None => 0,
     }
 }
 
 // Encodes the reply of the prefix test.
-pub fn rest_test_code(t: path::RestTest) -> usize
+#[tactic(auto, unfolding(crate::specs::RestCode::rest_test_code))]
+pub fn rest_test_code(t: Result<Option<usize>, Refusal>) -> usize
     ensures { result ≡ rest_test_code t }
 {
     match t {
-        path::RestTest::Tested(rest) => rest_code(rest),
-        path::RestTest::Refused(x) => refusal::number_of(x),
-    }
-}
-
-// The start of the rest; 0 if there is none.
-fn rest_first(rest: path_rest::Rest) -> usize
-    ensures { result ≡ rest_first rest }
-{
-    match rest {
-        path_rest::Rest::From(n) => n,
-        path_rest::Rest::Nothing => 0,
+        Ok(rest) => rest_code(rest),
+        Err(x) => refusal::number_of(x),
     }
 }
 
 // Encodes the length of a path that was written, and the start and the length of the rest.
+#[tactic(auto, unfolding(crate::specs::RestCode::carried_value))]
 fn carried_value(len: usize, start: usize, rest: usize) -> usize
     ensures { result ≡ carried_value len start rest }
 {
@@ -43,14 +38,15 @@ fn carried_value(len: usize, start: usize, rest: usize) -> usize
 }
 
 // Encodes a reply with the rest of the path.
-pub fn carried_code(path: &[u8], carried: path_rest::Carried) -> usize
+#[tactic(auto, unfolding(crate::specs::RestCode::carried_code, crate::specs::RestCode::rest_first))]
+pub fn carried_code(path: &[u8], carried: Result<(usize, Option<usize>), Refusal>) -> usize
     ensures { result ≡ carried_code path.now carried }
 {
     match carried {
-        path_rest::Carried::Written(n, rest) => {
+        Ok((n, rest)) => {
             let part = path_rest::rest_of(path, rest);
-            carried_value(n, rest_first(rest), part.len())
+            carried_value(n, rest.unwrap_or(0), part.len())
         }
-        path_rest::Carried::Refused(x) => refusal::number_of(x),
+        Err(x) => refusal::number_of(x),
     }
 }

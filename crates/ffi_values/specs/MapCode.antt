@@ -1,19 +1,16 @@
 -- Meaning: The reply of a call that builds a map or chains a path, encoded as one number for the C interface: the low byte is the refusal number (0
 -- if accepted), the remainder is 256 times the value.
-use Rattle.std.specs.Prelude.{◌≡◌, ℕ, ◌+◌, ◌*◌, ◌%◌, ◌^◌, Bool, cond, List, leb, Float}
+use Rattle.std.specs.Prelude.{◌≡◌, ℕ, ◌+◌, ◌*◌, ◌%◌, ◌^◌, Bool, cond, List, leb, Float, Result, Ok, Err}
 use Rattle.text.specs.Text.{Text}
 use Rattle.layer_offset.specs.declared.LayerOffset.{LayerOffset}
 use Rattle.layer_offset.specs.Offset.{layer_offset}
 use Rattle.refusal.specs.declared.Refusal.TheVariants.{TooMany}
 use Rattle.refusal.specs.Refusal.{refusal_number}
 use Rattle.map_function.specs.declared.MapFunction.{MapFunction}
-use Rattle.map_function.specs.declared.MapReply.{MapReply}
-use Rattle.map_function.specs.declared.MapReply.TheVariants.{Made, Refused}
 use Rattle.map_function.specs.MapOutcome.{MapOutcome, map_reply, map_bytes, map_slots}
 use Rattle.map_function.specs.MapFunction.{with_time_offset}
-use Rattle.relocate_chain.specs.declared.Chain.{Chain}
-use Rattle.relocate_chain.specs.declared.Chain.TheVariants.{Chained, Refused as RefusedChain}
 use Rattle.ffi_values.specs.Time.{offset_numbers}
+use Rattle.refusal.specs.declared.Refusal.{Refusal}
 
 -- A map's header from plain numbers: the number of pairs, the mark, and offset and scale of the time offset.
 abbrev pub map_from_numbers : ℕ → Bool → Float → Float → MapFunction
@@ -25,16 +22,16 @@ unfoldable pub map_value : ℕ → Bool → ℕ
 map_value count mark = cond mark (512 * (count % 2 ^ 55) + 256) (512 * (count % 2 ^ 55))
 
 -- The encoded reply of a call that builds a map.
-unfoldable pub map_code : MapReply → ℕ
+unfoldable pub map_code : Result MapFunction Refusal → ℕ
 unfolding map_value
-map_code (Made f) = map_value f.count f.has_root_identity
-map_code (Refused x) = refusal_number x
+map_code (Ok f) = map_value f.count f.has_root_identity
+map_code (Err x) = refusal_number x
 
 -- The two lent floats after the call: the map's time offset. Requirements: "A refused call writes nothing."
-unfoldable pub map_time : MapReply → List Float → List Float
+unfoldable pub map_time : Result MapFunction Refusal → List Float → List Float
 unfolding offset_numbers
-map_time (Made f) time = offset_numbers f.time_offset
-map_time (Refused x) time = time
+map_time (Ok f) time = offset_numbers f.time_offset
+map_time (Err x) time = time
 
 -- The call returned the given outcome in encoded form: the reply, both lent buffers and the two lent floats of the time offset.
 abbrev pub ReturnsMapCode : MapOutcome → ℕ → Text → Text → List ℕ → List ℕ → List Float → List Float → Type 0
@@ -42,8 +39,8 @@ ReturnsMapCode o r out out' slots slots' time time' =
     (r ≡ map_code (map_reply o)) × ((out' ≡ map_bytes o out) × ((slots' ≡ map_slots o slots) × (time' ≡ map_time (map_reply o) time)))
 
 -- The reply of replacing a map's time offset. The list of pairs is not lent, so only question 4 applies.
-unfoldable pub with_time_offset_call : MapFunction → LayerOffset → MapReply
-with_time_offset_call f time = cond (leb f.count 64) (Made (with_time_offset f time)) (Refused TooMany)
+unfoldable pub with_time_offset_call : MapFunction → LayerOffset → Result MapFunction Refusal
+with_time_offset_call f time = cond (leb f.count 64) (Ok (with_time_offset f time)) (Err TooMany)
 
 -- The encoded value of a chain: 256 times the number of steps, plus the length. A path has at most 255 bytes and there are at most 64
 -- steps, so the remainders change nothing; they rule out overflow.
@@ -51,7 +48,7 @@ unfoldable pub chain_value : ℕ → ℕ → ℕ
 chain_value len steps = 65536 * (steps % 2 ^ 48) + 256 * (len % 256)
 
 -- The encoded reply of a chaining call.
-unfoldable pub chain_code : Chain → ℕ
+unfoldable pub chain_code : Result (ℕ × ℕ) Refusal → ℕ
 unfolding chain_value
-chain_code (Chained len steps) = chain_value len steps
-chain_code (RefusedChain x) = refusal_number x
+chain_code (Ok (len, steps)) = chain_value len steps
+chain_code (Err x) = refusal_number x

@@ -1,10 +1,7 @@
 -- Method: The reply to one line, appended to the replies in the lent output buffer.
-use Rattle.std.specs.Prelude.{◌≡◌, ℕ, ◌+◌, ◌≤◌, Bool, cond, [], ◌∷◌, ◌++◌, leb, length, take}
-use Rattle.std.proofs.Math.Option.{Option}
+use Rattle.std.specs.Prelude.{◌≡◌, ℕ, ◌+◌, ◌≤◌, Bool, cond, [], ◌∷◌, ◌++◌, leb, length, take, Result, Ok, Err, Option}
 use Rattle.text.specs.Text.{Text, written_at}
 use Rattle.text.specs.Bytes.{newline}
-use Rattle.refusal.specs.declared.Reply.{Reply}
-use Rattle.refusal.specs.declared.Reply.TheVariants.{Written, Refused}
 use Rattle.refusal.specs.Refusal.{refusal_number}
 use Rattle.line_reader.specs.Lines.{Line}
 use Rattle.hex_digits.specs.Hex.{encode_hex}
@@ -12,6 +9,7 @@ use Rattle.frames_spec.specs.Frame.{Frame}
 use Rattle.frames_spec.specs.Run.{next_state, answer_frame}
 use Rattle.frames_spec.specs.Input.{parse_line, next_line, answer_line, max_answer_line}
 use Rattle.frames_memory.specs.Memory.{FramesMemory, step_frame_in}
+use Rattle.refusal.specs.declared.Refusal.{Refusal}
 
 -- Whether the output buffer has space for any reply after `at` bytes.
 abbrev pub room_at : ℕ → Text → Bool
@@ -23,15 +21,15 @@ unfolding encode_hex
 line_text b = encode_hex b ++ newline ∷ []
 
 -- The reply line of a reply whose payload is at the beginning of a buffer.
-unfoldable pub reply_line : ℕ → Reply → Text → Text
+unfoldable pub reply_line : ℕ → Result ℕ Refusal → Text → Text
 unfolding line_text
-reply_line head (Written n) payload = line_text (head ∷ 0 ∷ take n payload)
-reply_line head (Refused x) payload = line_text (head ∷ refusal_number x ∷ [])
+reply_line head (Ok n) payload = line_text (head ∷ 0 ∷ take n payload)
+reply_line head (Err x) payload = line_text (head ∷ refusal_number x ∷ [])
 
 -- The payload of a reply has at most `room` bytes.
-unfoldable pub PayloadFits : Reply → ℕ → Type 0
-PayloadFits (Written n) room = n ≤ room
-PayloadFits (Refused x) room = 0 ≤ room
+unfoldable pub PayloadFits : Result ℕ Refusal → ℕ → Type 0
+PayloadFits (Ok n) room = n ≤ room
+PayloadFits (Err x) room = 0 ≤ room
 
 -- The text t was written at offset `at`, and ends at `end`.
 unfoldable pub WroteAt : Text → ℕ → ℕ → Text → Text → Type 0

@@ -15,6 +15,8 @@ ghost use Rattle.frame_apply.specs.Done.{Replies, RepliesPath, FrameDone, PairDo
 ghost use Rattle.frame_answer.specs.Answer.{line_text, reply_line, PayloadFits, WroteAt, AnswersFrame, memory_after_line, out_after_line, end_after_line};
 ghost use Rattle.frames_spec.specs.Input.{max_answer_line};
 
+use refusal::Refusal;
+
 // The length of the longest reply line: two bytes and a path of 255, two digits each, and the newline.
 pub const MAX_ANSWER_LINE: usize = 515;
 
@@ -31,10 +33,7 @@ fn write_line(head: u8, answer: u8, payload: &[u8], at: usize, out: &mut [u8]) -
     ensures { WroteAt (line_text (head ∷ answer ∷ payload.now)) at result out.old
         out.new }
 {
-    let mut first = [0u8; 2];
-    first[0] = head;
-    first[1] = answer;
-    hex_digits::encode(&first, at, out);
+    hex_digits::encode(&[head, answer], at, out);
     let payload_at = at + 4;
     hex_digits::encode(payload, payload_at, out);
     let end = payload_at + 2 * payload.len();
@@ -42,27 +41,13 @@ fn write_line(head: u8, answer: u8, payload: &[u8], at: usize, out: &mut [u8]) -
     end + 1
 }
 
-// The count, held at FFFFFFFF.
-fn held_count(n: usize) -> usize
-    ensures { result ≡ saturate32 n }
-{
-    if n <= 4294967295 {
-        return n;
-    }
-    4294967295
-}
-
-// Writes a number over the first four bytes, the high byte first.
+// Writes a count, held at FFFFFFFF, over the first four bytes, the high byte first.
 fn write_count(n: usize, payload: &mut [u8])
     requires { 4 ≤ length payload.old }
-    ensures { payload.new ≡ written (big_endian32 n) payload.old }
+    ensures { payload.new ≡ written (big_endian32 (saturate32 n)) payload.old }
 {
-    let mut four = [0u8; 4];
-    four[0] = (n / 16777216 % 256) as u8;
-    four[1] = (n / 65536 % 256) as u8;
-    four[2] = (n / 256 % 256) as u8;
-    four[3] = (n % 256) as u8;
-    text::write_at(&four, 0, payload);
+    let count = u32::try_from(n).unwrap_or(u32::MAX);
+    text::write_at(&count.to_be_bytes(), 0, payload);
 }
 
 // Adds the pair that ends the frame, whose source has n bytes and whose target has m, to the open list.
@@ -90,7 +75,7 @@ fn apply_statuses(
     bytes: &[u8],
     places: &[usize],
     payload: &mut [u8],
-) -> refusal::Reply
+) -> Result<usize, Refusal>
     requires { length payload.old ≡ 255 }
     ensures { Replies (statuses_in (frames_memory k bytes.now places.now [] [] [])) result
         payload.old payload.new }
@@ -109,7 +94,7 @@ fn apply_route(
     slots: &[usize],
     table: &[usize],
     payload: &mut [u8],
-) -> refusal::Reply
+) -> Result<usize, Refusal>
     requires { (length payload.old ≡ 255) × (n ≤ length frame.now) }
     ensures { RepliesPath (route_path_in back
         (frames_memory k [] [] store.now slots.now table.now)
@@ -118,7 +103,7 @@ fn apply_route(
     let legs = k.legs;
     let start = frame.len() - n;
     route::route_after(
-        refusal::Validation::Passed,
+        Ok(()),
         store,
         slots,
         table,
@@ -161,30 +146,30 @@ fn apply_frame(
             frame_apply::count_out(back, k, w)
         }
         frame_decode::FrameHeader::Count => {
-            write_count(held_count(k.outs), payload);
+            write_count(k.outs, payload);
             frame_apply::Effect {
                 kept: k,
-                reply: refusal::Reply::Written(4),
+                reply: Ok(4),
             }
         }
     }
 }
 
 // Writes the reply line of a reply whose payload is at the beginning of the payload buffer.
-fn write_reply(head: u8, reply: refusal::Reply, payload: &[u8], at: usize, out: &mut [u8]) -> usize
+fn write_reply(
+    head: u8,
+    reply: Result<usize, Refusal>,
+    payload: &[u8],
+    at: usize,
+    out: &mut [u8],
+) -> usize
     requires payload_fits { PayloadFits reply (length payload.now) }
     requires payload_len { (length payload.now ≡ 255) × (at + max_answer_line ≤ length out.old) }
     ensures { WroteAt (reply_line head reply payload.now) at result out.old out.new }
 {
     match reply {
-        refusal::Reply::Written(n) => write_line(head, 0, &payload[..n], at, out),
-        refusal::Reply::Refused(x) => write_line(
-            head,
-            frame_apply::number_byte(x),
-            &payload[..0],
-            at,
-            out,
-        ),
+        Ok(n) => write_line(head, 0, &payload[..n], at, out),
+        Err(x) => write_line(head, frame_apply::number_byte(x), &payload[..0], at, out),
     }
 }
 
@@ -206,8 +191,7 @@ fn answer_frame(
         table.old) (frames_memory result.kept bytes.new places.new store.new
         slots.new table.new) at result.end out.old out.new }
 {
-    let d = frame_decode::decode_frame(frame);
-    let frame_decode::DecodedFrame::Frame(kind, header) = d else {
+    let Some((kind, header)) = frame_decode::decode_frame(frame) else {
         let end = write_line(255, 9, &frame[..0], at, out);
         return AnsweredLine { kept: k, end };
     };
@@ -233,10 +217,7 @@ fn answer_frame(
 fn has_room(at: usize, len: usize) -> bool
     ensures { result ≡ leb (at + max_answer_line) len }
 {
-    if len < MAX_ANSWER_LINE {
-        return false;
-    }
-    at <= len - MAX_ANSWER_LINE
+    MAX_ANSWER_LINE <= len && at <= len - MAX_ANSWER_LINE
 }
 
 // Processes the line of `len` bytes and writes its reply at offset `at` of `out`. The line is overlong if

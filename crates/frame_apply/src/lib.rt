@@ -7,16 +7,18 @@ ghost use Rattle.refusal.specs.Refusal.{refusal_number};
 ghost use Rattle.frames_memory.specs.Memory.{frames_memory};
 ghost use Rattle.frame_apply.specs.Done.{count_route, PairDone, CloseDone};
 
+use refusal::Refusal;
+
 // The effect of a frame: the counters after it, and the reply; its payload, if there is one, is at the
 // beginning of the payload buffer.
 #[derive(Clone, Copy)]
 pub struct Effect {
     pub kept: frames_memory::Counters,
-    pub reply: refusal::Reply,
+    pub reply: Result<usize, Refusal>,
 }
 
 // The number of a refusal as a byte.
-pub fn number_byte(x: refusal::Refusal) -> u8
+pub fn number_byte(x: Refusal) -> u8
     ensures { result ≡ refusal_number x }
 {
     refusal::number_of(x) as u8
@@ -37,36 +39,30 @@ pub fn apply_pair(
     let legs = k.legs;
     let a = open_list::add_pair(opened, source, target, bytes, places);
     match a {
-        open_list::Added::Done(o) => Effect {
+        Ok(o) => Effect {
             kept: frames_memory::Counters {
                 opened: o,
                 legs,
                 outs: k.outs,
             },
-            reply: refusal::Reply::Written(0),
+            reply: Ok(0),
         },
-        open_list::Added::Refused(x) => Effect {
+        Err(x) => Effect {
             kept: k,
-            reply: refusal::Reply::Refused(x),
+            reply: Err(x),
         },
     }
 }
 
 // A path frame: counts it if the path was mapped out and it was answered 00.
-pub fn count_out(back: bool, k: frames_memory::Counters, r: refusal::Reply) -> Effect
+pub fn count_out(back: bool, k: frames_memory::Counters, r: Result<usize, Refusal>) -> Effect
     ensures { result ≡ record {
       kept = record
           { opened = k.opened; legs = k.legs; outs = count_route back r k.outs };
       reply = r;
     } }
 {
-    if back {
-        return Effect { kept: k, reply: r };
-    }
-    if let refusal::Reply::Refused(x) = r {
-        return Effect { kept: k, reply: r };
-    }
-    if 4294967295 <= k.outs {
+    if back || r.is_err() || 4294967295 <= k.outs {
         return Effect { kept: k, reply: r };
     }
     let opened = k.opened;
@@ -109,17 +105,17 @@ pub fn apply_close(
         table,
     );
     match c {
-        close_leg::Closed::Done(g) => Effect {
+        Ok(g) => Effect {
             kept: frames_memory::Counters {
                 opened: open_list::OpenList { pairs: 0, bytes: 0 },
                 legs: g,
                 outs: k.outs,
             },
-            reply: refusal::Reply::Written(0),
+            reply: Ok(0),
         },
-        close_leg::Closed::Refused(x) => Effect {
+        Err(x) => Effect {
             kept: k,
-            reply: refusal::Reply::Refused(x),
+            reply: Err(x),
         },
     }
 }

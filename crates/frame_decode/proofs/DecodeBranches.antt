@@ -1,9 +1,9 @@
 -- Lemmas about the branches of the frame parser, one for each form of a payload.
+use Rattle.std.specs.Prelude.{Option, Some, None}
 use mathlib.Core.Path.{◌≡◌, refl, sym, ap, ◌∙◌}
 use mathlib.Core.Logic.{◌≢◌}
 use mathlib.Core.Bool.{Bool, true, false, cond}
 use mathlib.Core.List.{[], ◌∷◌}
-use mathlib.Core.Option.{Option, none, some}
 use Prim.Native.Nat.{ℕ, zero, suc, ◌+◌, ◌*◌, ◌-◌, ◌≤◌, ◌<◌}
 use native.Mathlib.Omega.{arith}
 use lib.Dec.{leb}
@@ -12,15 +12,13 @@ use lib.Seq.{length-take-le}
 use borrow.Author.Tests.{ne_eqb, le-leb, leb-true}
 use Rattle.text.specs.Text.{Text, is_nil}
 use Rattle.text.proofs.TextLaws.{nil_length}
-use Rattle.frames_spec.specs.Frame.{Action, add_one_pair, Form, no_payload, field, first_field, with_target, with_source, kinds, form_of, decode_payload, decode_form, with_kind, decode_frame}
+use Rattle.frames_spec.specs.Frame.{Action, add_one_pair, Form, no_payload, field, first_field, with_target, with_source, kinds, form_of, decode_payload, decode_form, with_kind}
 use Rattle.frame_decode.specs.declared.FrameHeader.{FrameHeader}
 use Rattle.frame_decode.specs.declared.FrameHeader.TheVariants.{AddPair}
-use Rattle.frame_decode.specs.declared.DecodedFrame.{DecodedFrame}
-use Rattle.frame_decode.specs.declared.DecodedFrame.TheVariants.{Frame as FrameDecoded, Bad}
 use Rattle.frame_decode.specs.Header.{header_of, decoded_of, decoded_alone}
 
 -- Fewer than two bytes contain no length.
-too_few : (x : Text) → length x < 2 → first_field x ≡ none
+too_few : (x : Text) → length x < 2 → first_field x ≡ None
 too_few [] h = refl
 too_few (a ∷ []) h = refl
 too_few (a ∷ b ∷ x) h = absurd (omega arith)
@@ -47,11 +45,11 @@ number_at b at = 256 * get_or b at 0 + get_or b (at + 1) 0
 -- The payload of a pair.
 module _ (f : Text → Text → Action) where
   -- A source that leaves no space for the target's length.
-  no_target : (h l : ℕ) (r : Text) → length r < 256 * h + l + 2 → none ≡ with_source f (first_field (h ∷ l ∷ r))
+  no_target : (h l : ℕ) (r : Text) → length r < 256 * h + l + 2 → None ≡ with_source f (first_field (h ∷ l ∷ r))
   no_target h l r k = go (leb (256 * h + l) (length r)) refl
     where
       go : (b : Bool) → leb (256 * h + l) (length r) ≡ b
-          → none ≡ with_source f (cond b (some (record { text = take (256 * h + l) r; rest = drop (256 * h + l) r })) none)
+          → None ≡ with_source f (cond b (Some (record { text = take (256 * h + l) r; rest = drop (256 * h + l) r })) None)
       go true e =
           sym (ap (with_target f (take (256 * h + l) r)) (too_few (drop (256 * h + l) r) (rw (length-drop (256 * h + l) r) (omega (arith, leb-true (256 * h + l) (length r) e, k)))))
       go false e = refl
@@ -63,34 +61,34 @@ module _ (f : Text → Text → Action) where
       rw (← e, le-leb n (length r) (omega (arith, k))) (ap (λ (x : Text). with_target f (take n r) (first_field x)) (two_at n r k))
 
   -- A target that does not fill the frame, and one that does.
-  not_filled : (s : Text) (m : ℕ) (x : Text) → length x ≢ m → none ≡ with_target f s (field m x)
+  not_filled : (s : Text) (m : ℕ) (x : Text) → length x ≢ m → None ≡ with_target f s (field m x)
   not_filled s m x k = go (leb m (length x)) refl
     where
-      go : (b : Bool) → leb m (length x) ≡ b → none ≡ with_target f s (cond b (some (record { text = take m x; rest = drop m x })) none)
+      go : (b : Bool) → leb m (length x) ≡ b → None ≡ with_target f s (cond b (Some (record { text = take m x; rest = drop m x })) None)
       go true e =
-          sym (ap (λ (b : Bool). cond b (some (f s (take m x))) none)
+          sym (ap (λ (b : Bool). cond b (Some (f s (take m x))) None)
           (not_nil (drop m x) (rw (length-drop m x) (omega (arith, leb-true m (length x) e, k)))))
       go false e = refl
 
-  filled : (s : Text) (m : ℕ) (x : Text) → length x ≡ m → some (f s (take m x)) ≡ with_target f s (field m x)
+  filled : (s : Text) (m : ℕ) (x : Text) → length x ≡ m → Some (f s (take m x)) ≡ with_target f s (field m x)
   filled s m x k =
       rw (le-leb m (length x) (omega (arith, k)))
-      (sym (ap (λ (b : Bool). cond b (some (f s (take m x))) none) (nil_length (drop m x) (rw (length-drop m x) (omega (arith, k))))))
+      (sym (ap (λ (b : Bool). cond b (Some (f s (take m x))) None) (nil_length (drop m x) (rw (length-drop m x) (omega (arith, k))))))
 
   module _ (p : Text) where
-    short : length p < 4 → none ≡ with_source f (first_field p)
+    short : length p < 4 → None ≡ with_source f (first_field p)
     short h = go p h
       where
-        go : (p : Text) → length p < 4 → none ≡ with_source f (first_field p)
+        go : (p : Text) → length p < 4 → None ≡ with_source f (first_field p)
         go [] k = refl
         go (h ∷ []) k = refl
         go (h ∷ l ∷ r) k = no_target h l r (omega (arith, k))
 
     module _ (k : 4 ≤ length p) (n : ℕ) (e : n ≡ number_at p 0) where
-      over : length p - 4 < n → none ≡ with_source f (first_field p)
+      over : length p - 4 < n → None ≡ with_source f (first_field p)
       over h = go p k e h
         where
-          go : (p : Text) → 4 ≤ length p → n ≡ number_at p 0 → length p - 4 < n → none ≡ with_source f (first_field p)
+          go : (p : Text) → 4 ≤ length p → n ≡ number_at p 0 → length p - 4 < n → None ≡ with_source f (first_field p)
           go [] k e h = absurd (omega arith)
           go (x ∷ []) k e h = absurd (omega arith)
           go (x ∷ y ∷ r) k e h = no_target x y r (omega (arith, k, e, h))
@@ -118,81 +116,62 @@ module _ (f : Text → Text → Action) where
         left : length (drop (4 + n) p) ≡ length p - 4 - n
         left = length-drop (4 + n) p ∙ omega arith
 
-        other : length p - 4 - n ≢ m → none ≡ with_source f (first_field p)
+        other : length p - 4 - n ≢ m → None ≡ with_source f (first_field p)
         other h = not_filled (take n (drop 2 p)) m (drop (4 + n) p) (λ z. h (sym left ∙ z)) ∙ sym opened
 
-        whole : length p - 4 - n ≡ m → some (f (take n (drop 2 p)) (take m (drop (4 + n) p))) ≡ with_source f (first_field p)
+        whole : length p - 4 - n ≡ m → Some (f (take n (drop 2 p)) (take m (drop (4 + n) p))) ≡ with_source f (first_field p)
         whole h = filled (take n (drop 2 p)) m (drop (4 + n) p) (left ∙ h) ∙ sym opened
 
 -- `decode_pair`
 module _ (k : ℕ) (p : Text) where
   -- The parse result for the action.
-  abbrev decoded : Option Action → DecodedFrame
+  abbrev decoded : Option Action → Option (ℕ × FrameHeader)
   decoded o = decoded_of (with_kind k o)
 
-  pub pair_short : length p < 4 → Bad ≡ decoded (with_source add_one_pair (first_field p))
+  pub pair_short : length p < 4 → None ≡ decoded (with_source add_one_pair (first_field p))
   pair_short h = ap decoded (short add_one_pair p h)
 
   module _ (h : 4 ≤ length p) (n : ℕ) (e : n ≡ number_at p 0) where
-    pub pair_over : length p - 4 < n → Bad ≡ decoded (with_source add_one_pair (first_field p))
+    pub pair_over : length p - 4 < n → None ≡ decoded (with_source add_one_pair (first_field p))
     pair_over l = ap decoded (over add_one_pair p h n e l)
 
     module _ (l : n ≤ length p - 4) (m : ℕ) (g : m ≡ number_at p (2 + n)) where
-      pub pair_other : length p - 4 - n ≢ m → Bad ≡ decoded (with_source add_one_pair (first_field p))
+      pub pair_other : length p - 4 - n ≢ m → None ≡ decoded (with_source add_one_pair (first_field p))
       pair_other w = ap decoded (other add_one_pair p h n e l m g w)
 
-      pub pair_filled : length p - 4 - n ≡ m → FrameDecoded k (AddPair n m) ≡ decoded (with_source add_one_pair (first_field p))
+      pub pair_filled : length p - 4 - n ≡ m → Some (k, AddPair n m) ≡ decoded (with_source add_one_pair (first_field p))
       pair_filled w =
           let s : length (take n (drop 2 p)) ≡ n = length-take-le n (drop 2 p) (rw (length-drop 2 p) (omega (arith, h, l))) in
           let t : length (take m (drop (4 + n) p)) ≡ m
           = length-take-le m (drop (4 + n) p) (rw (left add_one_pair p h n e l m g ∙ w) (omega arith)) in
-          ap (λ (i : ℕ). FrameDecoded k (AddPair i m)) (sym s) ∙ ap (λ (j : ℕ). FrameDecoded k (AddPair (length (take n (drop 2 p))) j)) (sym t)
+          ap (λ (i : ℕ). Some (k, AddPair i m)) (sym s) ∙ ap (λ (j : ℕ). Some (k, AddPair (length (take n (drop 2 p))) j)) (sym t)
           ∙ ap decoded (whole add_one_pair p h n e l m g w)
 
 pub ruleset fills = (pair_short, pair_over, pair_other, pair_filled)
 
 -- `decode_nothing`
 module _ (k : ℕ) (p : Text) (h : FrameHeader) where
-  pub alone_more : 0 < length p → Bad ≡ decoded_alone k p h
+  pub alone_more : 0 < length p → None ≡ decoded_alone k p h
   alone_more l = rw (not_nil p l) refl
 
-  pub alone_only : length p ≤ 0 → FrameDecoded k h ≡ decoded_alone k p h
+  pub alone_only : length p ≤ 0 → Some (k, h) ≡ decoded_alone k p h
   alone_only l = rw (nil_length p (omega (arith, l))) refl
 
 pub ruleset alone = (alone_more, alone_only)
 
 -- `decode_kind`: an arm for the kind j, whose line in the table has the form f.
-module _ (k j : ℕ) (p : Text) (h : k ≡ j) (f : Form) (e : form_of j kinds ≡ some f) (r : DecodedFrame) where
+module _ (k j : ℕ) (p : Text) (h : k ≡ j) (f : Form) (e : form_of j kinds ≡ Some f) (r : Option (ℕ × FrameHeader)) where
   pub of_kind : r ≡ decoded_of (with_kind k (decode_payload f p)) → r ≡ decoded_of (with_kind k (decode_form (form_of k kinds) p))
   of_kind w = rw (ap (λ (i : ℕ). form_of i kinds) h ∙ e) w
 
 -- An arm for a kind that has no bytes after the kind byte.
-pub of_kind_alone : (k j : ℕ) (p : Text) → k ≡ j → (a : Action) → form_of j kinds ≡ some (no_payload a) → (r : DecodedFrame) → r ≡ decoded_alone k p (header_of a)
+pub of_kind_alone : (k j : ℕ) (p : Text) → k ≡ j → (a : Action) → form_of j kinds ≡ Some (no_payload a) → (r : Option (ℕ × FrameHeader)) → r ≡ decoded_alone k p (header_of a)
     → r ≡ decoded_of (with_kind k (decode_form (form_of k kinds) p))
 of_kind_alone k j p h a e r w = of_kind k j p h (no_payload a) e r (w ∙ go (is_nil p))
   where
-    go : (t : Bool) → cond t (FrameDecoded k (header_of a)) Bad ≡ decoded_of (with_kind k (cond t (some a) none))
+    go : (t : Bool) → cond t (Some (k, header_of a)) None ≡ decoded_of (with_kind k (cond t (Some a) None))
     go true = refl
     go false = refl
 
-pub kind_other : (k : ℕ) (p : Text) → k ≢ 1 → k ≢ 2 → k ≢ 3 → k ≢ 4 → k ≢ 5 → k ≢ 6 → k ≢ 7 → Bad ≡ decoded_of (with_kind k (decode_form (form_of k kinds) p))
+pub kind_other : (k : ℕ) (p : Text) → k ≢ 1 → k ≢ 2 → k ≢ 3 → k ≢ 4 → k ≢ 5 → k ≢ 6 → k ≢ 7 → None ≡ decoded_of (with_kind k (decode_form (form_of k kinds) p))
 kind_other k p a c d e f g h = rw (ne_eqb k 1 a, ne_eqb k 2 c, ne_eqb k 3 d, ne_eqb k 4 e, ne_eqb k 5 f, ne_eqb k 6 g, ne_eqb k 7 h)
-
--- `decode_frame`
-module _ (b : Text) where
-  pub frame_empty : length b ≡ 0 → Bad ≡ decoded_of (decode_frame b)
-  unfolding decode_frame
-  frame_empty h = ap decoded_of (go b h)
-    where
-      go : (b : Text) → length b ≡ 0 → none ≡ decode_frame b
-      go [] h = refl
-      go (a ∷ b) h = absurd (omega arith)
-
-  pub frame_kind : length b ≢ 0 → (p : Text) → p ≡ drop 1 b → (r : DecodedFrame)
-      → r ≡ decoded_of (with_kind (get_or b 0 0) (decode_form (form_of (get_or b 0 0) kinds) p)) → r ≡ decoded_of (decode_frame b)
-  unfolding decode_frame
-  frame_kind h p w r e = e ∙ ap decoded_of (ap (λ (x : Text). with_kind (get_or b 0 0) (decode_form (form_of (get_or b 0 0) kinds) x)) w ∙ go b h)
-    where
-      go : (b : Text) → length b ≢ 0 → with_kind (get_or b 0 0) (decode_form (form_of (get_or b 0 0) kinds) (drop 1 b)) ≡ decode_frame b
-      go [] h = absurd (h refl)
-      go (a ∷ b) h = refl

@@ -1,7 +1,8 @@
 -- Lemmas about decoding the digits of a line: its branches, and the frame that the decoded bytes encode.
+use Rattle.std.specs.Prelude.{Result, Ok, Err, Option, Some, None}
+use Rattle.std.specs.Result.{result_unwrap_or}
 use mathlib.Core.Path.{◌≡◌, refl, ap, ◌∙◌}
 use mathlib.Core.Bool.{Bool, true, false, cond}
-use mathlib.Core.Option.{Option, none, some}
 use Prim.Native.Nat.{ℕ, ◌≤◌, ◌<◌}
 use native.Mathlib.Omega.{arith}
 use lib.Dec.{leb}
@@ -13,12 +14,12 @@ use Rattle.text.proofs.WriteLaws.{placed_first, read_back}
 use Rattle.line_reader.specs.Lines.{text, overlong, line_capacity, line_in_buffer}
 use Rattle.hex_digits.specs.Hex.{decode_hex}
 use Rattle.hex_digits.specs.Calls.{decode_reply, decode_buffer}
-use Rattle.hex_digits.specs.declared.Decoded.{Decoded}
-use Rattle.hex_digits.specs.declared.Decoded.TheVariants.{Bytes, Bad as BadDigits, Over}
 use Rattle.hex_digits.proofs.DecodeLaws.{decoded_length}
 use Rattle.frames_spec.specs.Frame.{decode_frame}
 use Rattle.frames_spec.specs.Input.{frame_of_bytes, parse_line}
 use Rattle.frame_decode.specs.LineBytes.{line_bytes, decoded_count}
+use Rattle.hex_digits.specs.declared.DecodeError.{DecodeError}
+use Rattle.hex_digits.specs.declared.DecodeError.TheVariants.{BufferTooShort}
 
 -- The capacity of a line buffer is its length, but at most 4,096.
 capacity_most : (n : ℕ) → (line_capacity n ≤ 4096) × (line_capacity n ≤ n)
@@ -37,17 +38,11 @@ capacity_least n len h i = go (leb n 4096)
     go true = i
     go false = h
 
--- The number of bytes that a result has.
-abbrev count : Decoded → ℕ
-count (Bytes n) = n
-count BadDigits = 0
-count Over = 0
-
-counts : (o : Option Text) (room : ℕ) → count (decode_reply o room) ≡ decoded_count o room
-counts none room = refl
-counts (some t) room = go (leb (length t) room)
+counts : (o : Option Text) (room : ℕ) → result_unwrap_or (decode_reply o room) 0 ≡ decoded_count o room
+counts None room = refl
+counts (Some t) room = go (leb (length t) room)
   where
-    go : (b : Bool) → count (cond b (Bytes (length t)) Over) ≡ cond b (length t) 0
+    go : (b : Bool) → result_unwrap_or (cond b (Ok (length t)) (Err BufferTooShort)) 0 ≡ cond b (length t) 0
     go true = refl
     go false = refl
 
@@ -68,31 +63,22 @@ module _ (line : Text) (len : ℕ) where
   pub line_beyond : (before : Text) → length line < len → Decodes 0 before before
   line_beyond before h = silent before (omega (arith, (capacity_most (length line)).1))
 
-  module _ (h : len ≤ 4096) (i : len ≤ length line) (d : Decoded) (before bytes : Text)
+  module _ (h : len ≤ 4096) (i : len ≤ length line) (d : Result ℕ DecodeError) (before bytes : Text)
       (e : d ≡ decode_reply (decode_hex (take len line)) (length before)) (f : bytes ≡ decode_buffer (decode_hex (take len line)) before) where
     in_line : line_bytes (line_in_buffer len line) ≡ decode_hex (take len line)
     unfolding line_bytes line_in_buffer
     in_line = rw (le-leb len (line_capacity (length line)) (capacity_least (length line) len h i)) refl
 
-    decoded : Decodes (count d) before bytes
-    decoded = rw in_line (ap count e ∙ counts (decode_hex (take len line)) (length before), f)
-
-    pub line_bytes_lem : (n : ℕ) → d ≡ Bytes n → Decodes n before bytes
-    line_bytes_lem n w = rw w at decoded
-
-    pub line_bad : d ≡ BadDigits → Decodes 0 before bytes
-    line_bad w = rw w at decoded
-
-    pub line_over : d ≡ Over → Decodes 0 before bytes
-    line_over w = rw w at decoded
+    pub line_decoded : Decodes (result_unwrap_or d 0) before bytes
+    line_decoded = rw in_line (ap (λ (r : Result ℕ DecodeError). result_unwrap_or r 0) e ∙ counts (decode_hex (take len line)) (length before), f)
 
 -- In a buffer of 2,048 bytes, the decoded bytes encode the frame of the line.
 module _ (line : Text) (len r : ℕ) (before bytes : Text) (room : length before ≡ 2048) (w : Decodes line len r before bytes) where
-  fits : (o : Option Text) → line_bytes (line_in_buffer len line) ≡ o → (t : Text) → o ≡ some t → length t ≤ 2048
+  fits : (o : Option Text) → line_bytes (line_in_buffer len line) ≡ o → (t : Text) → o ≡ Some t → length t ≤ 2048
   unfolding line_bytes line_in_buffer
   fits o e t f = go (leb len (line_capacity (length line))) refl (e ∙ f)
     where
-      go : (b : Bool) → leb len (line_capacity (length line)) ≡ b → line_bytes (cond b (text (take len line)) overlong) ≡ some t → length t ≤ 2048
+      go : (b : Bool) → leb len (line_capacity (length line)) ≡ b → line_bytes (cond b (text (take len line)) overlong) ≡ Some t → length t ≤ 2048
       go true i k =
           let c = capacity_most (length line) in
           let s : len ≤ line_capacity (length line) = leb-true len (line_capacity (length line)) i in
@@ -102,9 +88,9 @@ module _ (line : Text) (len r : ℕ) (before bytes : Text) (room : length before
   parsed : (o : Option Text) → line_bytes (line_in_buffer len line) ≡ o → r ≡ decoded_count o (length before) → bytes ≡ decode_buffer o before
       → (r ≤ length bytes) × (decode_frame (take r bytes) ≡ frame_of_bytes o)
   unfolding decode_frame
-  parsed none e f g = rw f (omega arith, refl)
-  parsed (some t) e f g =
-      let l : length t ≤ 2048 = fits (some t) e t refl in
+  parsed None e f g = rw f (omega arith, refl)
+  parsed (Some t) e f g =
+      let l : length t ≤ 2048 = fits (Some t) e t refl in
       let k : r ≡ length t = f ∙ rw (room, le-leb (length t) 2048 l) refl in
       let v : bytes ≡ written t before = g ∙ placed_first t before (rw room l) in (
         omega (arith, k, ap length v, length-append t (drop (length t) before)),

@@ -1,12 +1,9 @@
 -- Method: The result of parsing the bytes of a frame, and the frame that it denotes.
-use Rattle.std.specs.Prelude.{ℕ, ◌+◌, ◌-◌, cond, length, take, drop}
-use Rattle.std.proofs.Math.Option.{Option, none, some}
+use Rattle.std.specs.Prelude.{ℕ, ◌+◌, ◌-◌, cond, length, take, drop, Option, Some, None}
 use Rattle.text.specs.Text.{Text, is_nil}
 use Rattle.frames_spec.specs.Frame.{Frame, frame, Action, add_one_pair, statuses, close, route, count}
 use Rattle.frame_decode.specs.declared.FrameHeader.{FrameHeader}
 use Rattle.frame_decode.specs.declared.FrameHeader.TheVariants.{AddPair, Statuses, Close, Route, Count}
-use Rattle.frame_decode.specs.declared.DecodedFrame.{DecodedFrame}
-use Rattle.frame_decode.specs.declared.DecodedFrame.TheVariants.{Frame as FrameDecoded, Bad}
 
 -- What a frame asks for, with the lengths of the texts instead of the texts.
 abbrev pub header_of : Action → FrameHeader
@@ -17,9 +14,9 @@ header_of (route back p) = Route back (length p)
 header_of count = Count
 
 -- The parse result for a frame.
-abbrev pub decoded_of : Option Frame → DecodedFrame
-decoded_of none = Bad
-decoded_of (some (frame k a)) = FrameDecoded k (header_of a)
+abbrev pub decoded_of : Option Frame → Option (ℕ × FrameHeader)
+decoded_of None = None
+decoded_of (Some (frame k a)) = Some (k, header_of a)
 
 -- The last n bytes of b.
 abbrev pub last_bytes : ℕ → Text → Text
@@ -43,10 +40,10 @@ reach (Route back n) = n
 reach Count = 0
 
 -- The frame that a parse result of the bytes b denotes.
-abbrev pub frame_in : Text → DecodedFrame → Option Frame
-frame_in b (FrameDecoded k h) = some (frame k (action_in b h))
-frame_in b Bad = none
+abbrev pub frame_in : Text → Option (ℕ × FrameHeader) → Option Frame
+frame_in b (Some (k, h)) = Some (frame k (action_in b h))
+frame_in b None = None
 
 -- The parse result for a kind that has no bytes after the kind byte.
-abbrev pub decoded_alone : ℕ → Text → FrameHeader → DecodedFrame
-decoded_alone k p h = cond (is_nil p) (FrameDecoded k h) Bad
+abbrev pub decoded_alone : ℕ → Text → FrameHeader → Option (ℕ × FrameHeader)
+decoded_alone k p h = cond (is_nil p) (Some (k, h)) None

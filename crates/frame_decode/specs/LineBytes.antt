@@ -1,6 +1,5 @@
 -- Method: The bytes that a line encodes in hexadecimal.
-use Rattle.std.specs.Prelude.{ℕ, cond, leb, length}
-use Rattle.std.proofs.Math.Option.{Option, none, some}
+use Rattle.std.specs.Prelude.{ℕ, cond, leb, length, Option, Some, None}
 use Rattle.text.specs.Text.{Text}
 use Rattle.line_reader.specs.Lines.{Line, text, overlong}
 use Rattle.hex_digits.specs.Hex.{decode_hex}
@@ -9,9 +8,9 @@ use Rattle.hex_digits.specs.Hex.{decode_hex}
 unfoldable pub line_bytes : Line → Option Text
 unfolding decode_hex
 line_bytes (text t) = decode_hex t
-line_bytes overlong = none
+line_bytes overlong = None
 
 -- The number of decoded bytes in a buffer of capacity `room`; 0 if there are none or they do not fit.
 abbrev pub decoded_count : Option Text → ℕ → ℕ
-decoded_count none room = 0
-decoded_count (some t) room = cond (leb (length t) room) (length t) 0
+decoded_count None room = 0
+decoded_count (Some t) room = cond (leb (length t) room) (length t) 0

@@ -22,61 +22,47 @@ pub enum FrameHeader {
     Count,
 }
 
-// The parse result of a frame.
-#[derive(Clone, Copy)]
-pub enum DecodedFrame {
-    // The kind, and what the frame asks for.
-    Frame(u8, FrameHeader),
-    // Not well formed.
-    Bad,
-}
-
-// A number of two bytes.
-fn big_endian16(high: u8, low: u8) -> usize
-    ensures { result ≡ 256 * high + low }
-{
-    256 * (high as usize) + (low as usize)
-}
-
 // The two-byte number at an offset, high byte first.
 fn number_at(bytes: &[u8], at: usize) -> usize
     requires { at + 2 ≤ length bytes.now }
     ensures { result ≡ 256 * get_or bytes.now at 0 + get_or bytes.now (at + 1) 0 }
 {
-    big_endian16(bytes[at], bytes[at + 1])
+    u16::from_be_bytes([bytes[at], bytes[at + 1]]) as usize
 }
 
 // Parses the payload of a pair: two texts with their lengths that fill it exactly.
-fn decode_pair(kind: u8, payload: &[u8]) -> DecodedFrame
+#[tactic(auto, using(crate::proofs::DecodeBranches::fills))]
+fn decode_pair(kind: u8, payload: &[u8]) -> Option<(u8, FrameHeader)>
     ensures { result ≡ decoded_of (with_kind kind (decode_payload (pair_payload add_one_pair) payload.now)) }
 {
     if payload.len() < 4 {
-        return DecodedFrame::Bad;
+        return None;
     }
     let left = payload.len() - 4;
     let n = number_at(payload, 0);
     if left < n {
-        return DecodedFrame::Bad;
+        return None;
     }
     let m = number_at(payload, 2 + n);
     if left - n != m {
-        return DecodedFrame::Bad;
+        return None;
     }
-    DecodedFrame::Frame(kind, FrameHeader::AddPair(n, m))
+    Some((kind, FrameHeader::AddPair(n, m)))
 }
 
 // Parses a payload of no bytes.
-fn decode_nothing(kind: u8, payload: &[u8], header: FrameHeader) -> DecodedFrame
+#[tactic(auto, using(crate::proofs::DecodeBranches::alone))]
+fn decode_nothing(kind: u8, payload: &[u8], header: FrameHeader) -> Option<(u8, FrameHeader)>
     ensures { result ≡ decoded_alone kind payload.now header }
 {
     if 0 < payload.len() {
-        return DecodedFrame::Bad;
+        return None;
     }
-    DecodedFrame::Frame(kind, header)
+    Some((kind, header))
 }
 
 // Parses the bytes after the kind: an arm for each line of the table of kinds.
-fn decode_kind(kind: u8, payload: &[u8]) -> DecodedFrame
+fn decode_kind(kind: u8, payload: &[u8]) -> Option<(u8, FrameHeader)>
     ensures { result ≡ decoded_of (with_kind kind (decode_form (form_of kind kinds) payload.now)) }
 {
     match kind {
@@ -84,21 +70,22 @@ fn decode_kind(kind: u8, payload: &[u8]) -> DecodedFrame
         2 => decode_nothing(kind, payload, FrameHeader::Statuses),
         3 => decode_nothing(kind, payload, FrameHeader::Close(false)),
         4 => decode_nothing(kind, payload, FrameHeader::Close(true)),
-        5 => DecodedFrame::Frame(kind, FrameHeader::Route(false, payload.len())),
-        6 => DecodedFrame::Frame(kind, FrameHeader::Route(true, payload.len())),
+        5 => Some((kind, FrameHeader::Route(false, payload.len()))),
+        6 => Some((kind, FrameHeader::Route(true, payload.len()))),
         7 => decode_nothing(kind, payload, FrameHeader::Count),
-        _ => DecodedFrame::Bad,
+        _ => None,
     }
 }
 
 // Parses the bytes of a frame.
-pub fn decode_frame(bytes: &[u8]) -> DecodedFrame
+#[tactic(auto, unfolding(frames_spec::specs::Frame::decode_frame))]
+pub fn decode_frame(bytes: &[u8]) -> Option<(u8, FrameHeader)>
     ensures { result ≡ decoded_of (decode_frame bytes.now) }
 {
-    if bytes.len() == 0 {
-        return DecodedFrame::Bad;
-    }
-    decode_kind(bytes[0], &bytes[1..])
+    let [kind, payload @ ..] = bytes else {
+        return None;
+    };
+    decode_kind(*kind, payload)
 }
 
 // Decodes the digits of a line of `len` bytes to the beginning of the buffer and returns the number of bytes; 0
@@ -115,10 +102,5 @@ pub fn decode_line(line: &[u8], len: usize, frame: &mut [u8]) -> usize
     if line.len() < len {
         return 0;
     }
-    let d = hex_digits::decode(&line[..len], frame);
-    match d {
-        hex_digits::Decoded::Bytes(n) => n,
-        hex_digits::Decoded::Bad => 0,
-        hex_digits::Decoded::Over => 0,
-    }
+    hex_digits::decode(&line[..len], frame).unwrap_or(0)
 }

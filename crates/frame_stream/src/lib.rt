@@ -82,6 +82,7 @@ pub fn process_block(
     let mut n = len;
     let mut kept = k;
     let mut end = 0;
+    // A `while`: each turn consumes as many bytes as a line has.
     while used < block.len() && frame_answer::MAX_ANSWER_LINE <= out.len() - end {
         let t = stream_step(
             &block[used..],

@@ -146,13 +146,3 @@ last_are a h = rw (le-leb 1 a.len (omega (arith, h))) refl
 pub last_begun : (a : StreamState) (held held' : Option Text) → (a.len ≡ 0 → ⊥) → BeginningWritten held held' (answers_in (process_block (newline ∷ []) (next_call a)))
     → BeginningWritten held held' (last_replies a)
 last_begun a held held' h w = subst (BeginningWritten held held') (sym (last_are a h)) w
-
--- A fact that holds whether the loop goes on or not.
-pub either_way : {P : Type 0} (b : Bool) → (b ≡ true → P) → (b ≡ false → P) → P
-either_way true p q = p refl
-either_way false p q = q refl
-
--- `is_none` answered yes.
-pub none_is : {X : Type 0} (f : Option X) (b : Bool) → is_some f ≡ not b → b ≡ true → f ≡ None
-none_is None b e h = refl
-none_is (Some x) b e h = cc (ap not h)

@@ -10,12 +10,14 @@
 // that it is handed is open: the contracts of std's standard streams say nothing of them.
 #![tactic(auto)]
 
-ghost use Rattle.std.specs.Prelude.{◌≡◌, true, false, None, [], ◌≤◌, length};
+ghost use Rattle.std.specs.Prelude.{◌≡◌, ◌≢◌, None, [], ◌≤◌, length};
 ghost use Rattle.std.specs.Io.KnownBytes.{Appends};
 ghost use Rattle.frames_memory.specs.Represents.{initial_counters};
 ghost use Rattle.frame_stream.specs.Stream.{stream_state, process_block};
 ghost use Rattle.frame_stream.specs.StreamTheorems.{answers_in};
 ghost use Rattle.frame_stream.specs.Progress.{state_between, StartState, unconsumed, Reached, NextReplies, NextStep, LastStep, after_input, last_replies, Finished};
+ghost use Rattle.frames.specs.declared.LoopState.TheVariants.{Running, Done};
+ghost use Rattle.frames.specs.LoopState.{unless_failed};
 ghost use Rattle.frames.specs.Moves.{BeginningWritten, NextMove, LastMove, FailedMove, OutputWritten, OutputBegun};
 
 use std::env::FillError;
@@ -37,18 +39,36 @@ struct AnswerPart {
     failure: Option<Failure>,
 }
 
-// The state of the main loop: the range of the input block that is not consumed, the length of the line so
-// far, the counters, whether to continue, whether the whole input was processed and the replies written, and
-// why not, if reading or writing failed.
+// Whether the main loop goes on.
+#[derive(Clone, Copy)]
+enum LoopState {
+    // There may be more input.
+    Running,
+    // The whole input was processed and the replies written.
+    Done,
+    // Reading or writing failed.
+    Failed(Failure),
+}
+
+// What the main loop has between two steps: the range of the input block that is not consumed, the length of the
+// line so far, the counters, and whether it goes on.
 #[derive(Clone, Copy)]
 struct StreamNow {
     at: usize,
     end: usize,
     len: usize,
     kept: frames_memory::Counters,
-    more: bool,
-    done: bool,
-    failure: Option<Failure>,
+    state: LoopState,
+}
+
+// The state after replies were to be written: `next`, unless that failed.
+fn unless_failed(failure: Option<Failure>, next: LoopState) -> LoopState
+    ensures { result ≡ unless_failed failure next }
+{
+    match failure {
+        None => next,
+        Some(e) => LoopState::Failed(e),
+    }
 }
 
 // The counters before the first line.
@@ -125,10 +145,10 @@ fn finish<W: Write>(
     ensures b_after { let a = state_between len k line.old bytes.old places.old store.old slots.old table.old out.old in
         let b = state_between result.len result.kept line.new bytes.new places.new store.new slots.new table.new out.new in
         b ≡ after_input a }
-    ensures more_value { result.more ≡ false }
+    ensures more_value { result.state ≢ Running }
     ensures end_value { result.end ≡ 0 }
     ensures all { let a = state_between len k line.old bytes.old places.old store.old slots.old table.old out.old in
-        result.done ≡ true → Appends (W.contents to.old) (W.contents to.new) (last_replies a) }
+        result.state ≡ Done → Appends (W.contents to.old) (W.contents to.new) (last_replies a) }
     ensures begun { let a = state_between len k line.old bytes.old places.old store.old slots.old table.old out.old in
         BeginningWritten (W.contents to.old) (W.contents to.new) (last_replies a) }
 {
@@ -139,9 +159,7 @@ fn finish<W: Write>(
             end: 0,
             len,
             kept: k,
-            more: false,
-            done: true,
-            failure: None,
+            state: LoopState::Done,
         };
     }
     let p = answer(
@@ -154,9 +172,7 @@ fn finish<W: Write>(
         end: 0,
         len: reply.len,
         kept,
-        more: false,
-        done: p.failure.is_none(),
-        failure: p.failure,
+        state: unless_failed(p.failure, LoopState::Done),
     }
 }
 
@@ -185,16 +201,16 @@ fn step<R: Read, W: Write>(
     ensures fact { let a = state_between len k line.old bytes.old places.old store.old slots.old table.old out.old in
         let b = state_between result.len result.kept line.new bytes.new places.new store.new slots.new table.new out.new in
         let rest = unconsumed block.old at end in
-        (result.more ≡ true → NextStep rest a (unconsumed block.new result.at result.end) b) × (result.done ≡ true → LastStep rest a b) }
+        (result.state ≡ Running → NextStep rest a (unconsumed block.new result.at result.end) b) × (result.state ≡ Done → LastStep rest a b) }
     ensures next { let a = state_between len k line.old bytes.old places.old store.old slots.old table.old out.old in
         let b = state_between result.len result.kept line.new bytes.new places.new store.new slots.new table.new out.new in
-        result.more ≡ true → NextMove (unconsumed block.old at end) a (R.remaining from.old) (W.contents to.old)
+        result.state ≡ Running → NextMove (unconsumed block.old at end) a (R.remaining from.old) (W.contents to.old)
         (unconsumed block.new result.at result.end) b (R.remaining from.new) (W.contents to.new) }
     ensures last { let a = state_between len k line.old bytes.old places.old store.old slots.old table.old out.old in
-        result.done ≡ true → LastMove (unconsumed block.old at end) a (R.remaining from.old) (W.contents to.old)
+        result.state ≡ Done → LastMove (unconsumed block.old at end) a (R.remaining from.old) (W.contents to.old)
         (R.remaining from.new) (W.contents to.new) }
     ensures failed { let a = state_between len k line.old bytes.old places.old store.old slots.old table.old out.old in
-        result.more ≡ false → FailedMove (unconsumed block.old at end) a (R.remaining from.old) (W.contents to.old)
+        result.state ≢ Running → FailedMove (unconsumed block.old at end) a (R.remaining from.old) (W.contents to.old)
         (R.remaining from.new) (W.contents to.new) }
 {
     if at < end {
@@ -210,9 +226,7 @@ fn step<R: Read, W: Write>(
             end,
             len: reply.len,
             kept: after,
-            more: p.failure.is_none(),
-            done: false,
-            failure: p.failure,
+            state: unless_failed(p.failure, LoopState::Running),
         };
     }
     let n = match stdio::read(from, block) {
@@ -223,9 +237,7 @@ fn step<R: Read, W: Write>(
                 end: 0,
                 len,
                 kept: k,
-                more: false,
-                done: false,
-                failure: Some(Failure::Input(e)),
+                state: LoopState::Failed(Failure::Input(e)),
             };
         }
     };
@@ -237,13 +249,11 @@ fn step<R: Read, W: Write>(
         end: n,
         len,
         kept: k,
-        more: true,
-        done: false,
-        failure: None,
+        state: LoopState::Running,
     }
 }
 
-// Runs the main loop until the input ends, or reading or writing fails; `steps` bounds it so that it provably
+// Runs the main loop until the input ends, or reading or writing fails; the range bounds it so that it provably
 // ends.
 fn run<R: Read, W: Write>(
     from: &mut R,
@@ -259,10 +269,10 @@ fn run<R: Read, W: Write>(
 ) -> StreamNow
     requires { StartState (state_between 0 initial_counters line.old bytes.old places.old store.old slots.old
         table.old out.old) }
-    ensures finished { result.done ≡ true → Finished
+    ensures finished { result.state ≡ Done → Finished
         (state_between result.len result.kept line.new bytes.new places.new store.new
         slots.new table.new out.new) }
-    ensures all { result.done ≡ true → OutputWritten (R.remaining from.old) (W.contents to.old) (W.contents to.new) }
+    ensures all { result.state ≡ Done → OutputWritten (R.remaining from.old) (W.contents to.old) (W.contents to.new) }
     ensures begun { OutputBegun (R.remaining from.old) (W.contents to.old) (W.contents to.new) }
 {
     let mut now = StreamNow {
@@ -270,13 +280,12 @@ fn run<R: Read, W: Write>(
         end: 0,
         len: 0,
         kept: initial_counters(),
-        more: true,
-        done: false,
-        failure: None,
+        state: LoopState::Running,
     };
-    let mut steps = u64::MAX;
-    while steps > 0 && now.more {
-        steps -= 1;
+    for _step in 0..u64::MAX {
+        let LoopState::Running = now.state else {
+            return now;
+        };
         let kept = now.kept;
         now = step(
             from, to, block, now.at, now.end, line, now.len, kept, bytes, places, store, slots,
@@ -362,7 +371,7 @@ fn main(rt: HostRuntime) {
         &mut table,
         &mut out,
     );
-    if let Some(failure) = now.failure {
+    if let LoopState::Failed(failure) = now.state {
         report(&mut rt.stderr(), failure);
     }
 }

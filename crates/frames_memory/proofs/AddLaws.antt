@@ -1,4 +1,5 @@
 -- Lemmas about adding a pair: the buffers change as the state does.
+use Rattle.std.specs.Prelude.{Result, Ok, Err, ⊤}
 use mathlib.Core.Path.{◌≡◌, refl, sym, ◌∙◌, subst}
 use mathlib.Core.Bool.{Bool, true, false, cond, ◌&&◌}
 use mathlib.Core.List.{List, [], ◌∷◌, ◌++◌}
@@ -13,8 +14,6 @@ use Rattle.pair_list.specs.Pair.{pair, all_ends, all_short}
 use Rattle.pair_list.specs.Places.{pair_entry}
 use Rattle.pair_list.proofs.PlaceLaws.{every_snoc}
 use Rattle.refusal.specs.declared.Refusal.TheVariants.{TooMany, NoRoom}
-use Rattle.refusal.specs.declared.Validation.{Validation}
-use Rattle.refusal.specs.declared.Validation.TheVariants.{Passed, Refused}
 use Rattle.refusal.specs.Refusal.{refused_or}
 use Rattle.validate.specs.Validate.{validate_call}
 use Rattle.validate.proofs.PassedLaws.{text_short, second_short, text_end_lem, second_end}
@@ -26,6 +25,7 @@ use Rattle.frames_memory.specs.Represents.{LargeEnough, Represents, SameStep}
 use Rattle.frames_memory.proofs.OpenListLaws.{short_bytes}
 use Rattle.text.proofs.WriteLaws.{over_length}
 use Rattle.path_grammar.proofs.LegalLaws.{short_fits}
+use Rattle.refusal.specs.declared.Refusal.{Refusal}
 
 module _ (m : FramesMemory) (st : State) (g : Represents m st) (s t : Text) where
   abbrev k : ℕ
@@ -38,7 +38,7 @@ module _ (m : FramesMemory) (st : State) (g : Represents m st) (s t : Text) wher
   two = s ∷ t ∷ []
 
   -- The ends have at most 255 bytes, and there is space for 64 pairs of such ends.
-  module _ (e : validate_call [] two two ≡ Passed) (h : has_pair_room st ≡ true) where
+  module _ (e : validate_call [] two two ≡ Ok tt) (h : has_pair_room st ≡ true) where
     fewer : suc k ≤ 64
     fewer = omega (arith, g.opened.number, leb-true (suc (length st.opened)) 64 h)
 
@@ -50,20 +50,21 @@ module _ (m : FramesMemory) (st : State) (g : Represents m st) (s t : Text) wher
         omega (arith, text_short [] s (t ∷ []) two e, second_short [] s t [] two e, g.opened.end, short_bytes st.opened g.short, g.opened.number, fewer, g.large.bytes)
 
   -- The validation on the buffers agrees with that of the protocol.
-  add_validated : validate_add m.kept.opened s t (length m.bytes) (length m.places) ≡ refused_or (validate_call [] two two) Refused (cond (has_pair_room st) Passed (Refused TooMany))
+  add_validated : validate_add m.kept.opened s t (length m.bytes) (length m.places) ≡ refused_or (validate_call [] two two) Err (cond (has_pair_room st) (Ok tt) (Err TooMany))
   unfolding validate_add
   add_validated = go (validate_call [] two two) refl (has_pair_room st) refl
     where
-      go : (a : Validation) → validate_call [] two two ≡ a → (c : Bool) → has_pair_room st ≡ c
-          → refused_or a Refused (cond (leb (suc k) 64 && leb (4 * suc k) (length m.places)) (cond (leb (b + (length s + length t)) (length m.bytes)) Passed (Refused NoRoom)) (Refused TooMany))
-          ≡ refused_or a Refused (cond c Passed (Refused TooMany))
-      go Passed e true h =
+      go : (a : Result ⊤ Refusal) → validate_call [] two two ≡ a → (c : Bool) → has_pair_room st ≡ c
+          → ◌≡◌ {A = Result ⊤ Refusal}
+          (refused_or a Err (cond (leb (suc k) 64 && leb (4 * suc k) (length m.places)) (cond (leb (b + (length s + length t)) (length m.bytes)) (Ok tt) (Err NoRoom)) (Err TooMany)))
+          (refused_or a Err (cond c (Ok tt) (Err TooMany)))
+      go (Ok tt) e true h =
           rw (le-leb (suc k) 64 (fewer e h), le-leb (4 * suc k) (length m.places) (slots_fit e h), le-leb (b + (length s + length t)) (length m.bytes) (bytes_fit e h)) refl
-      go Passed e false h = rw (lt-leb (suc k) 64 (omega (arith, g.opened.number, leb-false (suc (length st.opened)) 64 h))) refl
-      go (Refused x) e c h = refl
+      go (Ok tt) e false h = rw (lt-leb (suc k) 64 (omega (arith, g.opened.number, leb-false (suc (length st.opened)) 64 h))) refl
+      go (Err x) e c h = refl
 
-  module _ (e : validate_call [] two two ≡ Passed) (h : has_pair_room st ≡ true) where
-    still_large : LargeEnough (add_after Passed m s t).state
+  module _ (e : validate_call [] two two ≡ Ok tt) (h : has_pair_room st ≡ true) where
+    still_large : LargeEnough (add_after (Ok tt) m s t).state
     unfolding add_bytes add_places
     still_large = record {
       bytes = rw (over_length b (s ++ t) m.bytes (omega (arith, length-append s t, bytes_fit e h))) g.large.bytes;
@@ -73,7 +74,7 @@ module _ (m : FramesMemory) (st : State) (g : Represents m st) (s t : Text) wher
       table = g.large.table;
     }
 
-    holds_more : Represents (add_after Passed m s t).state (with_pair st s t).state
+    holds_more : Represents (add_after (Ok tt) m s t).state (with_pair st s t).state
     unfolding all_ends all_short
     holds_more = record {
       opened = opened.grows st.opened m.kept.opened m.bytes m.places s t g.opened (add_validated ∙ rw (e, h) refl);
@@ -94,10 +95,10 @@ module _ (m : FramesMemory) (st : State) (g : Represents m st) (s t : Text) wher
 
   pub same_add : SameStep (add_in m s t) (add_pair st s t)
   unfolding add_in add_pair add_bytes add_places
-  same_add = subst (λ (a : Validation). SameStep (add_after a m s t) (add_pair st s t)) (sym add_validated) (go (validate_call [] two two) refl (has_pair_room st) refl)
+  same_add = subst (λ (a : Result ⊤ Refusal). SameStep (add_after a m s t) (add_pair st s t)) (sym add_validated) (go (validate_call [] two two) refl (has_pair_room st) refl)
     where
-      go : (a : Validation) → validate_call [] two two ≡ a → (c : Bool) → has_pair_room st ≡ c
-          → SameStep (add_after (refused_or a Refused (cond c Passed (Refused TooMany))) m s t) (refused_or a (refuse st) (cond c (with_pair st s t) (refuse st TooMany)))
-      go Passed e true h = record { answers = refl; holds = holds_more e h }
-      go Passed e false h = record { answers = refl; holds = g }
-      go (Refused x) e c h = record { answers = refl; holds = g }
+      go : (a : Result ⊤ Refusal) → validate_call [] two two ≡ a → (c : Bool) → has_pair_room st ≡ c
+          → SameStep (add_after (refused_or a Err (cond c (Ok tt) (Err TooMany))) m s t) (refused_or a (refuse st) (cond c (with_pair st s t) (refuse st TooMany)))
+      go (Ok tt) e true h = record { answers = refl; holds = holds_more e h }
+      go (Ok tt) e false h = record { answers = refl; holds = g }
+      go (Err x) e c h = record { answers = refl; holds = g }

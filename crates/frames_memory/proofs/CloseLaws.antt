@@ -1,4 +1,5 @@
 -- Lemmas about closing a leg: the buffers change as the state does.
+use Rattle.std.specs.Prelude.{Result, Ok, Err, ⊤}
 use mathlib.Core.Path.{◌≡◌, refl, sym, ap, subst}
 use mathlib.Core.Bool.{Bool, true, false, cond, ◌&&◌}
 use mathlib.Core.List.{[], ◌∷◌, map, map-append}
@@ -11,8 +12,6 @@ use Rattle.pair_list.specs.Pair.{all_ends, all_short}
 use Rattle.pair_list.specs.Places.{list_text, list_places, end_bytes}
 use Rattle.pair_list.proofs.ListLaws.{list_length, places_length}
 use Rattle.refusal.specs.declared.Refusal.TheVariants.{TooMany, NoRoom}
-use Rattle.refusal.specs.declared.Validation.{Validation}
-use Rattle.refusal.specs.declared.Validation.TheVariants.{Passed, Refused}
 use Rattle.map_function.proofs.NewBranches.{from_parts_bytes}
 use Rattle.route_spec.specs.Leg.{Leg, leg_map, closed_leg, counted_pairs}
 use Rattle.route_spec.proofs.Theorem.{map_ends}
@@ -25,10 +24,11 @@ use Rattle.frames_memory.proofs.LegLaws.{Room, legs_more}
 use Rattle.frames_memory.proofs.RouteLaws.{in_store_lem, legs_count}
 use Rattle.frames_memory.proofs.ValidateLaws.{open_read, list_counts}
 use Rattle.text.proofs.WriteLaws.{over_length}
+use Rattle.refusal.specs.declared.Refusal.{Refusal}
 
 -- The result of questions 4 and 5.
-abbrev replied : Bool → Bool → Validation
-replied leg bytes = cond leg (cond bytes Passed (Refused NoRoom)) (Refused TooMany)
+abbrev replied : Bool → Bool → Result ⊤ Refusal
+replied leg bytes = cond leg (cond bytes (Ok tt) (Err NoRoom)) (Err TooMany)
 
 module _ (m : FramesMemory) (st : State) (g : Represents m st) where
   abbrev k : ℕ
@@ -92,7 +92,7 @@ module _ (m : FramesMemory) (st : State) (g : Represents m st) where
       room = record { store = in_store_lem m st g; slots = omega (arith, one_more, g.large.slots); table = omega (arith, one_more, g.large.table) }
 
       after : FramesMemory
-      after = (close_after Passed m (with_leg (leg_store_of m) (leg_map x) n)).state
+      after = (close_after (Ok tt) m (with_leg (leg_store_of m) (leg_map x) n)).state
 
       still_large : LargeEnough after
       unfolding with_leg after
@@ -131,7 +131,7 @@ module _ (m : FramesMemory) (st : State) (g : Represents m st) where
     pub same_close : SameStep (close_in relocates m) (close_opened relocates st)
     unfolding close_in close_list closed_store after
     same_close =
-        subst (λ (a : Validation). SameStep (close_after a m (close_store relocates (open_list_of m) (leg_store_of m))) (close_list st x n)) (sym close_validated)
+        subst (λ (a : Result ⊤ Refusal). SameStep (close_after a m (close_store relocates (open_list_of m) (leg_store_of m))) (close_list st x n)) (sym close_validated)
         (subst (λ (v : LegStore). SameStep (close_after (replied (has_leg_room st) (has_byte_room st n)) m v) (close_list st x n)) (sym close_store_lem)
         (go (has_leg_room st) refl (has_byte_room st n) refl))
       where

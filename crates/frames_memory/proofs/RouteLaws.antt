@@ -1,4 +1,5 @@
 -- Lemmas about a path over the legs in the buffers: the result is that of the protocol.
+use Rattle.std.specs.Prelude.{Result, Ok, Err, ⊤}
 use mathlib.Core.Path.{◌≡◌, refl, sym, ◌∙◌}
 use mathlib.Core.Bool.{Bool}
 use mathlib.Core.List.{map}
@@ -6,8 +7,6 @@ use Prim.Native.Nat.{◌≤◌}
 use native.Mathlib.Omega.{arith}
 use lib.ListN.{length, length-map}
 use Rattle.text.specs.Text.{Text}
-use Rattle.refusal.specs.declared.Validation.{Validation}
-use Rattle.refusal.specs.declared.Validation.TheVariants.{Passed, Refused}
 use Rattle.refusal.specs.Outcome.{refused, require_room, after_checks}
 use Rattle.refusal.specs.Refusal.{refused_or}
 use Rattle.path.specs.Calls.{path_new_call}
@@ -21,6 +20,7 @@ use Rattle.frames_spec.proofs.RunLaws.{passed_whole}
 use Rattle.frames_memory.specs.Memory.{FramesMemory, leg_store_of, route_of, route_path_in}
 use Rattle.frames_memory.specs.Represents.{Represents}
 use Rattle.frames_memory.proofs.StoredLaws.{maps_read, maps_sound}
+use Rattle.refusal.specs.declared.Refusal.{Refusal}
 
 module _ (m : FramesMemory) (st : State) (g : Represents m st) where
   pub in_store_lem : m.kept.legs.bytes ≤ length m.store
@@ -29,7 +29,7 @@ module _ (m : FramesMemory) (st : State) (g : Represents m st) where
   pub legs_count : m.kept.legs.count ≡ length st.legs
   legs_count = g.legs.count ∙ length-map st.legs leg_map
 
-  same_route : (back : Bool) (p : Text) → path_new_call p ≡ Passed
+  same_route : (back : Bool) (p : Text) → path_new_call p ≡ Ok tt
       → run_route back st.legs p ≡ run_route_fast back (route_of m) m.kept.legs.count (entering_path back m.kept.legs.count p)
   same_route back p h =
       let w = passed_whole p h in
@@ -40,8 +40,8 @@ module _ (m : FramesMemory) (st : State) (g : Represents m st) where
   unfolding route_path_in route_path after_route_validated first_refusal after_checks require_room
   same_routes back p = go (path_new_call p) refl
     where
-      go : (a : Validation) → path_new_call p ≡ a
-          → after_checks (first_refusal Passed a) 255 (run_route_fast back (route_of m) m.kept.legs.count (entering_path back m.kept.legs.count p))
+      go : (a : Result ⊤ Refusal) → path_new_call p ≡ a
+          → after_checks (first_refusal (Ok tt) a) 255 (run_route_fast back (route_of m) m.kept.legs.count (entering_path back m.kept.legs.count p))
           ≡ refused_or a refused (run_route back st.legs p)
-      go Passed h = sym (same_route back p h)
-      go (Refused x) h = refl
+      go (Ok tt) h = sym (same_route back p h)
+      go (Err x) h = refl

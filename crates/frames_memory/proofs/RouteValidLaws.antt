@@ -1,11 +1,11 @@
 -- Lemmas about the legs in the buffers: as a lent route they pass questions 1 to 4.
+use Rattle.std.specs.Prelude.{Ok}
 use mathlib.Core.Path.{◌≡◌, refl, ap, ◌∙◌}
 use mathlib.Core.List.{[], ◌∷◌, map}
 use Prim.Native.Nat.{ℕ, zero, suc, ◌+◌, ◌-◌, ◌*◌, ◌/◌, ◌≤◌, ◌<◌}
 use native.Mathlib.Omega.{arith}
 use lib.ListN.{length, get_or, drop, length-drop}
 use borrow.Author.Tests.{le-leb}
-use Rattle.refusal.specs.declared.Validation.TheVariants.{Passed}
 use Rattle.validate.specs.Validate.{validate_call, first_refusal, first_failed, every}
 use Rattle.validate.proofs.RefusalLaws.{list_more}
 use Rattle.map_spec.specs.Map.{Map}
@@ -47,10 +47,10 @@ module _ (m : FramesMemory) (st : State) (g : Represents m st) where
           numbers = h.places;
         })
 
-    leg_passes : validate_call (list_at (route_of m) k ∷ []) [] [] ≡ Passed
+    leg_passes : validate_call (list_at (route_of m) k ∷ []) [] [] ≡ Ok tt
     leg_passes = holds_passes (list_at (route_of m) k) x.pairs leg_holds
 
-  lists_pass : (k : ℕ) → k ≤ n → validate_call (lists_in (route_of m) k) [] [] ≡ Passed
+  lists_pass : (k : ℕ) → k ≤ n → validate_call (lists_in (route_of m) k) [] [] ≡ Ok tt
   unfolding lists_in first_refusal validate_call every first_failed
   lists_pass zero l = refl
   lists_pass (suc k) l =
@@ -60,7 +60,7 @@ module _ (m : FramesMemory) (st : State) (g : Represents m st) where
       ∙ ap (λ a. first_refusal a (validate_call (list_at (route_of m) k ∷ []) [] [])) (lists_pass k (omega arith))
       ∙ leg_passes k l x (g.legs.each k i)
 
-  pub legs_pass : validate_route (route_of m) [] ≡ Passed
+  pub legs_pass : validate_route (route_of m) [] ≡ Ok tt
   unfolding validate_route present_legs leg_count_within_limit
   legs_pass =
       let h : n ≤ length m.table / 3 = omega (arith, few_legs, g.large.table) in

@@ -1,9 +1,9 @@
 -- The proof of the theorem: a frame on buffers that hold a state of the protocol gets the reply of that state, and leaves buffers that hold
 -- the next state.
+use Rattle.std.specs.Prelude.{Option, Some, None}
 use mathlib.Core.Path.{◌≡◌, refl, ap, ◌∙◌}
 use mathlib.Core.Bool.{true, false}
 use mathlib.Core.List.{List, [], ◌∷◌, ◌++◌}
-use mathlib.Core.Option.{Option, none, some}
 use Prim.Native.Nat.{ℕ, ◌+◌}
 use native.Mathlib.Omega.{arith}
 use lib.ListN.{length}
@@ -75,8 +75,8 @@ module _ (m : FramesMemory) (st : State) (g : Represents m st) where
 
   -- A parsed frame, or a bad one.
   same_frame : (f : Option Frame) → (answer_frame step_frame_in m f ≡ answer_frame step_frame st f) × Represents (next_state step_frame_in m f) (next_state step_frame st f)
-  same_frame none = (refl, g)
-  same_frame (some f) = (ap (λ (a : Answer). (kind f + 128) ∷ answer_bytes a) (steps f).answers, (steps f).holds)
+  same_frame None = (refl, g)
+  same_frame (Some f) = (ap (λ (a : Answer). (kind f + 128) ∷ answer_bytes a) (steps f).answers, (steps f).holds)
 
 same_line : (m : FramesMemory) (st : State) (l : Line) → Represents m st → (answer_line step_frame_in m l ≡ answer_line step_frame st l) × Represents (next_line step_frame_in m l) (next_line step_frame st l)
 unfolding answer_line

@@ -1,4 +1,5 @@
 -- Lemmas about a list of validated pairs in the buffers: it passes questions 1 to 4; and about the open list.
+use Rattle.std.specs.Prelude.{Ok}
 use mathlib.Core.Path.{◌≡◌, refl, sym, ap, ◌∙◌}
 use mathlib.Core.Bool.{Bool, true, ◌&&◌}
 use mathlib.Core.List.{List, [], ◌∷◌, ◌++◌}
@@ -16,7 +17,6 @@ use Rattle.pair_list.specs.Pair.{Pair, source_at, target_at, all_ends, all_short
 use Rattle.text_list.specs.Places.{start_at, length_at, in_store, text_at}
 use Rattle.pair_list.specs.Places.{list_places, pair_entry, end_bytes, is_short_at, places_short, places_all}
 use Rattle.pair_list.proofs.PlaceLaws.{pairs_in_source, pairs_in_target, short_at}
-use Rattle.refusal.specs.declared.Validation.TheVariants.{Passed}
 use Rattle.validate.specs.Validate.{LentList, pairs_of, present_places, list_short, list_all, count_within_limit, every, first_failed, validate_call}
 use Rattle.open_list.proofs.OpenListLaws.{opened}
 use Rattle.frames_spec.specs.State.{State}
@@ -118,7 +118,7 @@ module _ (x : LentList) (l : List Pair) (g : HoldsValidated x l) where
   legal_there : (i : ℕ) → (legal (source_at l i) ≡ true) × (legal (target_at l i) ≡ true)
   legal_there i = (end_legal (source_at l i) (ends_there i).0, end_legal (target_at l i) (ends_there i).1)
 
-  pub holds_passes : validate_call (x ∷ []) [] [] ≡ Passed
+  pub holds_passes : validate_call (x ∷ []) [] [] ≡ Ok tt
   unfolding validate_call every first_failed
   holds_passes = rw (list_fits, list_all_lem legal legal_there, list_all_lem is_end ends_there, counted) refl
 
@@ -148,5 +148,5 @@ module _ (m : FramesMemory) (st : State) (g : Represents m st) where
   pub list_counts : count_within_limit (open_list_of m) ≡ true
   list_counts = counted (open_list_of m) st.opened open_holds
 
-  pub list_passes : validate_call (open_list_of m ∷ []) [] [] ≡ Passed
+  pub list_passes : validate_call (open_list_of m ∷ []) [] [] ≡ Ok tt
   list_passes = holds_passes (open_list_of m) st.opened open_holds

@@ -1,10 +1,8 @@
 -- Meaning: What `frames` keeps between two lines in lent memory, and the effect of each frame on it: every byte and number, for any contents of the
 -- buffers. Buffers that hold a state of the protocol keep holding one (specs/Represents.antt).
-use Rattle.std.specs.Prelude.{ℕ, Bool, true, false, List, [], ◌∷◌, length}
+use Rattle.std.specs.Prelude.{ℕ, Bool, true, false, List, [], ◌∷◌, length, Result, Ok, ⊤}
 use Rattle.text.specs.Text.{Text}
 use Rattle.refusal.specs.declared.Refusal.{Refusal}
-use Rattle.refusal.specs.declared.Validation.{Validation}
-use Rattle.refusal.specs.declared.Validation.TheVariants.{Passed}
 use Rattle.refusal.specs.Refusal.{refused_or}
 use Rattle.refusal.specs.Outcome.{Outcome}
 use Rattle.validate.specs.Validate.{LentList, lent_list, pairs_of, validate_call}
@@ -47,15 +45,15 @@ abbrev pub route_of : FramesMemory → LentRoute
 route_of m = lent_route m.store m.slots m.table m.kept.legs.count
 
 -- The reply of a frame that has no payload.
-abbrev pub accepted_answer : Validation → Answer
+abbrev pub accepted_answer : Result ⊤ Refusal → Answer
 accepted_answer a = refused_or a refusal (success [])
 
 -- The size of the open list after an 01 frame, given the result of its validation.
-abbrev pub opened_after : Validation → OpenList → Text → Text → OpenList
+abbrev pub opened_after : Result ⊤ Refusal → OpenList → Text → Text → OpenList
 opened_after a k s t = refused_or a (λ (x : Refusal). k) (with_one_more k s t)
 
 -- The step of an 01 frame, given the result of its validation.
-abbrev pub add_after : Validation → FramesMemory → Text → Text → Transition FramesMemory
+abbrev pub add_after : Result ⊤ Refusal → FramesMemory → Text → Text → Transition FramesMemory
 add_after a m s t = record {
   state = record {
     kept = record { opened = opened_after a m.kept.opened s t; legs = m.kept.legs; outs = m.kept.outs };
@@ -84,7 +82,7 @@ empty_open_list = record { pairs = 0; bytes = 0 }
 
 -- The step of an 03 or 04 frame, given the result of its validation and the leg store after it. Requirements: "An accepted close empties
 -- the open list; a refused one changes nothing."
-abbrev pub close_after : Validation → FramesMemory → LegStore → Transition FramesMemory
+abbrev pub close_after : Result ⊤ Refusal → FramesMemory → LegStore → Transition FramesMemory
 close_after a m v = record {
   state = record {
     kept = record { opened = refused_or a (λ (x : Refusal). m.kept.opened) empty_open_list; legs = v.legs; outs = m.kept.outs };
@@ -105,7 +103,7 @@ close_in relocates m = close_after (validate_close_of relocates (open_list_of m)
 -- The outcome of an 05 or 06 frame: the route over the legs, which were validated when they were closed.
 unfoldable pub route_path_in : Bool → FramesMemory → Text → Outcome
 unfolding after_route_validated
-route_path_in back m p = after_route_validated Passed back (route_of m) p 255
+route_path_in back m p = after_route_validated (Ok tt) back (route_of m) p 255
 
 -- The step of an 05 frame with this outcome.
 abbrev pub count_in : FramesMemory → Outcome → Transition FramesMemory

@@ -1,8 +1,8 @@
 -- The proofs of the theorems about the lines of every input.
+use Rattle.std.specs.Prelude.{Option, Some}
 use mathlib.Core.Path.{◌≡◌, refl, sym, ap, ◌∙◌}
 use mathlib.Core.Bool.{false}
 use mathlib.Core.List.{List, [], ◌∷◌, ◌++◌, map, append_assoc, append-nil}
-use mathlib.Core.Option.{Option, some}
 use Prim.Native.Nat.{ℕ}
 use Rattle.text.specs.Text.{Text}
 use Rattle.path_grammar.specs.Own.{has_variant_selection}
@@ -38,26 +38,26 @@ answers_more st (x ∷ ls) l =
     ∙ sym (append_assoc (answer_line step_frame st x) (fold_answers (next_line step_frame) (answer_line step_frame) (next_line step_frame st x) ls) (answer_line step_frame (state_after_frames (next_line step_frame st x) (map parse_line ls)) l))
 
 -- The reply to a line is the reply to its frame.
-says : (st : State) (l : Line) (f : Frame) (k : ℕ) (q : Text) → parse_line l ≡ some f → answer_frame step_frame st (some f) ≡ k ∷ 0 ∷ q → answer_line step_frame st l ≡ accepted_line k q
+says : (st : State) (l : Line) (f : Frame) (k : ℕ) (q : Text) → parse_line l ≡ Some f → answer_frame step_frame st (Some f) ≡ k ∷ 0 ∷ q → answer_line step_frame st l ≡ accepted_line k q
 unfolding answer_line
 says st l f k q h e = ap (λ (o : Option Frame). encode_hex (answer_frame step_frame st o) ++ 10 ∷ []) h ∙ ap (λ (b : Text). encode_hex b ++ 10 ∷ []) e
 
-module _ (ls : List Line) (l k : Line) (p q : Text) (h : parse_line l ≡ some (out p)) (plain : has_variant_selection p ≡ false)
-    (e : (step_frame (state_after ls) (out p)).answer ≡ success q) (g : parse_line k ≡ some (home q)) where
+module _ (ls : List Line) (l k : Line) (p q : Text) (h : parse_line l ≡ Some (out p)) (plain : has_variant_selection p ≡ false)
+    (e : (step_frame (state_after ls) (out p)).answer ≡ success q) (g : parse_line k ≡ Some (home q)) where
   routes_out : answer_line step_frame (state_after ls) l ≡ accepted_line 133 q
   routes_out = says (state_after ls) l (out p) 133 q h (ap (λ (a : Answer). 133 ∷ answer_bytes a) e)
 
-  there : state_after (ls ++ l ∷ []) ≡ next_state step_frame (state_after ls) (some (out p))
+  there : state_after (ls ++ l ∷ []) ≡ next_state step_frame (state_after ls) (Some (out p))
   there = state_more ls l ∙ ap (next_state step_frame (state_after ls)) h
 
-  comes_back : (step_frame (next_state step_frame (state_after ls) (some (out p))) (home q)).answer ≡ success p
+  comes_back : (step_frame (next_state step_frame (state_after ls) (Some (out p))) (home q)).answer ≡ success p
   unfolding state_after
   comes_back = run_theorems.comes_home (map parse_line ls) p q plain e
 
   routes_home : answer_line step_frame (state_after (ls ++ l ∷ [])) k ≡ accepted_line 134 p
   routes_home =
       ap (λ (st : State). answer_line step_frame st k) there
-      ∙ says (next_state step_frame (state_after ls) (some (out p))) k (home q) 134 p g (ap (λ (a : Answer). 134 ∷ answer_bytes a) comes_back)
+      ∙ says (next_state step_frame (state_after ls) (Some (out p))) k (home q) 134 p g (ap (λ (a : Answer). 134 ∷ answer_bytes a) comes_back)
 
 pub input_theorems : InputTheorems
 unfolding answers_to state_after

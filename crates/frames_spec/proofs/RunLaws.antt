@@ -1,8 +1,8 @@
 -- The proofs of the theorems about every run.
+use Rattle.std.specs.Prelude.{Result, Ok, Err, Option, Some, None, ⊤}
 use mathlib.Core.Path.{◌≡◌, refl, sym, ap, ◌∙◌}
 use mathlib.Core.Bool.{Bool, true, false, cond, ◌&&◌}
 use mathlib.Core.List.{List, [], ◌∷◌, ◌++◌}
-use mathlib.Core.Option.{Option, none, some}
 use Prim.Native.Nat.{ℕ, zero, suc, ◌+◌, ◌≤◌}
 use native.Mathlib.Omega.{arith}
 use lib.Dec.{leb}
@@ -16,8 +16,6 @@ use Rattle.pair_list.specs.Places.{end_bytes}
 use Rattle.pair_list.proofs.PlaceLaws.{every_snoc}
 use Rattle.refusal.specs.declared.Refusal.{Refusal}
 use Rattle.refusal.specs.declared.Refusal.TheVariants.{TooLong, Illegal, TooMany, NoRoom}
-use Rattle.refusal.specs.declared.Validation.{Validation}
-use Rattle.refusal.specs.declared.Validation.TheVariants.{Passed, Refused}
 use Rattle.refusal.specs.Refusal.{refused_or, all_texts_short, all_texts_legal, validate_texts}
 use Rattle.refusal.specs.Outcome.{Outcome, path, refused}
 use Rattle.path.specs.Calls.{path_new_call}
@@ -53,9 +51,9 @@ adds_keeps : (st : State) (s t : Text) → Kept st → Kept (add_pair st s t).st
 unfolding add_pair
 adds_keeps st s t k = go (validate_call [] (s ∷ t ∷ []) (s ∷ t ∷ [])) refl (has_pair_room st) refl
   where
-    go : (a : Validation) → validate_call [] (s ∷ t ∷ []) (s ∷ t ∷ []) ≡ a → (b : Bool) → has_pair_room st ≡ b
+    go : (a : Result ⊤ Refusal) → validate_call [] (s ∷ t ∷ []) (s ∷ t ∷ []) ≡ a → (b : Bool) → has_pair_room st ≡ b
         → Kept (refused_or a (refuse st) (cond b (with_pair st s t) (refuse st TooMany))).state
-    go Passed e true h = record {
+    go (Ok tt) e true h = record {
       ends = ends_more st.opened (pair_of s t) k.ends (text_end_lem [] (s ∷ t ∷ []) s (t ∷ []) e) (second_end [] (s ∷ t ∷ []) s t [] e);
       leg_ends_lem = k.leg_ends_lem;
       within = record {
@@ -65,8 +63,8 @@ adds_keeps st s t k = go (validate_call [] (s ∷ t ∷ []) (s ∷ t ∷ [])) re
         outs = k.within.outs;
       };
     }
-    go Passed e false h = k
-    go (Refused x) e b h = k
+    go (Ok tt) e false h = k
+    go (Err x) e b h = k
 
 closes_keeps : (st : State) (x : Leg) (n : ℕ) → leg_ends x ≡ true → Kept st → Kept (close_list st x n).state
 unfolding close_list all_ends
@@ -128,13 +126,13 @@ closed_keeps relocates st k =
 
 next_keeps : (st : State) (f : Option Frame) → Kept st → Kept (next_state step_frame st f)
 unfolding step_frame
-next_keeps st none k = k
-next_keeps st (some (frame n (add_one_pair s t))) k = adds_keeps st s t k
-next_keeps st (some (frame n statuses)) k = k
-next_keeps st (some (frame n (close relocates))) k = closed_keeps relocates st k
-next_keeps st (some (frame n (route false p))) k = record { ends = k.ends; leg_ends_lem = k.leg_ends_lem; within = record { pairs = k.within.pairs; legs = k.within.legs; bytes = k.within.bytes; outs = counts_few (route_path false st p) st.outs k.within.outs } }
-next_keeps st (some (frame n (route true p))) k = k
-next_keeps st (some (frame n count)) k = k
+next_keeps st None k = k
+next_keeps st (Some (frame n (add_one_pair s t))) k = adds_keeps st s t k
+next_keeps st (Some (frame n statuses)) k = k
+next_keeps st (Some (frame n (close relocates))) k = closed_keeps relocates st k
+next_keeps st (Some (frame n (route false p))) k = record { ends = k.ends; leg_ends_lem = k.leg_ends_lem; within = record { pairs = k.within.pairs; legs = k.within.legs; bytes = k.within.bytes; outs = counts_few (route_path false st p) st.outs k.within.outs } }
+next_keeps st (Some (frame n (route true p))) k = k
+next_keeps st (Some (frame n count)) k = k
 
 after_keeps : (st : State) (fs : List (Option Frame)) → Kept st → Kept (state_after_frames st fs)
 unfolding state_after_frames
@@ -145,10 +143,10 @@ adds_same : (st : State) (s t : Text) → (add_pair st s t).state.outs ≡ st.ou
 unfolding add_pair
 adds_same st s t = go (validate_call [] (s ∷ t ∷ []) (s ∷ t ∷ [])) (has_pair_room st)
   where
-    go : (a : Validation) (b : Bool) → (refused_or a (refuse st) (cond b (with_pair st s t) (refuse st TooMany))).state.outs ≡ st.outs
-    go Passed true = refl
-    go Passed false = refl
-    go (Refused x) b = refl
+    go : (a : Result ⊤ Refusal) (b : Bool) → (refused_or a (refuse st) (cond b (with_pair st s t) (refuse st TooMany))).state.outs ≡ st.outs
+    go (Ok tt) true = refl
+    go (Ok tt) false = refl
+    go (Err x) b = refl
 
 closes_same : (st : State) (x : Leg) (n : ℕ) → (close_list st x n).state.outs ≡ st.outs
 unfolding close_list
@@ -170,13 +168,13 @@ next_counts st f h = go f
     still = let z : st.outs + 0 ≡ st.outs = omega arith in rw z (sym (saturated_few st.outs h))
 
     go : (f : Option Frame) → (next_state step_frame st f).outs ≡ saturate32 (st.outs + count_out st f)
-    go none = still
-    go (some (frame k (add_one_pair s t))) = adds_same st s t ∙ still
-    go (some (frame k statuses)) = still
-    go (some (frame k (close relocates))) = closed_same relocates st ∙ still
-    go (some (frame k (route false p))) = counts_saturated (route_path false st p) st.outs h
-    go (some (frame k (route true p))) = still
-    go (some (frame k count)) = still
+    go None = still
+    go (Some (frame k (add_one_pair s t))) = adds_same st s t ∙ still
+    go (Some (frame k statuses)) = still
+    go (Some (frame k (close relocates))) = closed_same relocates st ∙ still
+    go (Some (frame k (route false p))) = counts_saturated (route_path false st p) st.outs h
+    go (Some (frame k (route true p))) = still
+    go (Some (frame k count)) = still
 
 after_counts : (st : State) (fs : List (Option Frame)) → Kept st → (state_after_frames st fs).outs ≡ saturate32 (st.outs + count_outs st fs)
 unfolding state_after_frames count_outs
@@ -189,11 +187,11 @@ after_counts st (f ∷ fs) k =
     ∙ ap saturate32 z
 
 -- A path that is mapped out over the legs is mapped home.
-pub passed_whole : (p : Text) → path_new_call p ≡ Passed → (at_most255 p ≡ true) × (legal p ≡ true)
+pub passed_whole : (p : Text) → path_new_call p ≡ Ok tt → (at_most255 p ≡ true) × (legal p ≡ true)
 unfolding path_new_call validate_texts all_texts_short all_texts_legal
 passed_whole p h = go (at_most255 p) (legal p) h
   where
-    go : (a b : Bool) → cond (a && true) (cond (b && true) Passed (Refused Illegal)) (Refused TooLong) ≡ Passed → (a ≡ true) × (b ≡ true)
+    go : (a b : Bool) → ◌≡◌ {A = Result ⊤ Refusal} (cond (a && true) (cond (b && true) (Ok tt) (Err Illegal)) (Err TooLong)) (Ok tt) → (a ≡ true) × (b ≡ true)
     go true true e = (refl, refl)
     go true false e = absurd (let z : ◌≡◌ {A = ℕ} 0 1 = cc in omega arith)
     go false b e = absurd (let z : ◌≡◌ {A = ℕ} 0 1 = cc in omega arith)
@@ -202,15 +200,15 @@ success_routes : (o : Outcome) (q : Text) → outcome_answer o ≡ success q →
 success_routes (path t) q e = let z : t ≡ q = cc in ap path z
 success_routes (refused x) q e = absurd (let z : ◌≡◌ {A = ℕ} 0 1 = cc in omega arith)
 
-routes_passed : (back : Bool) (st : State) (p q : Text) → route_path back st p ≡ path q → (path_new_call p ≡ Passed) × (run_route back st.legs p ≡ path q)
+routes_passed : (back : Bool) (st : State) (p q : Text) → route_path back st p ≡ path q → (path_new_call p ≡ Ok tt) × (run_route back st.legs p ≡ path q)
 unfolding route_path
 routes_passed back st p q e = go (path_new_call p) refl e
   where
-    go : (a : Validation) → path_new_call p ≡ a → refused_or a refused (run_route back st.legs p) ≡ path q → (path_new_call p ≡ Passed) × (run_route back st.legs p ≡ path q)
-    go Passed h k = (h, k)
-    go (Refused x) h k = absurd (let z : ◌≡◌ {A = ℕ} 0 1 = cc in omega arith)
+    go : (a : Result ⊤ Refusal) → path_new_call p ≡ a → refused_or a refused (run_route back st.legs p) ≡ path q → (path_new_call p ≡ Ok tt) × (run_route back st.legs p ≡ path q)
+    go (Ok tt) h k = (h, k)
+    go (Err x) h k = absurd (let z : ◌≡◌ {A = ℕ} 0 1 = cc in omega arith)
 
-passed_routes : (back : Bool) (st : State) (p : Text) → path_new_call p ≡ Passed → route_path back st p ≡ run_route back st.legs p
+passed_routes : (back : Bool) (st : State) (p : Text) → path_new_call p ≡ Ok tt → route_path back st p ≡ run_route back st.legs p
 unfolding route_path
 passed_routes back st p h = rw h
 
@@ -234,11 +232,11 @@ adds_still : (st : State) (s t : Text) (x : Refusal) → (add_pair st s t).answe
 unfolding add_pair
 adds_still st s t x = go (validate_call [] (s ∷ t ∷ []) (s ∷ t ∷ [])) (has_pair_room st)
   where
-    go : (a : Validation) (b : Bool) → (refused_or a (refuse st) (cond b (with_pair st s t) (refuse st TooMany))).answer ≡ refusal x
+    go : (a : Result ⊤ Refusal) (b : Bool) → (refused_or a (refuse st) (cond b (with_pair st s t) (refuse st TooMany))).answer ≡ refusal x
         → (refused_or a (refuse st) (cond b (with_pair st s t) (refuse st TooMany))).state ≡ st
-    go Passed true e = absurd (success_refused [] x e)
-    go Passed false e = refl
-    go (Refused y) b e = refl
+    go (Ok tt) true e = absurd (success_refused [] x e)
+    go (Ok tt) false e = refl
+    go (Err y) b e = refl
 
 closes_still : (st : State) (l : Leg) (n : ℕ) (x : Refusal) → (close_list st l n).answer ≡ refusal x → (close_list st l n).state ≡ st
 unfolding close_list
@@ -273,7 +271,7 @@ run_theorems = record {
   refused_still = still;
   comes_home = λ fs p q plain e.
       ap outcome_answer
-      (returns (state_after_frames initial_state fs) (after_keeps initial_state fs begins) p q plain (success_routes (route_path false (state_after_frames initial_state fs) p) q e) (next_state step_frame (state_after_frames initial_state fs) (some (out p))) refl);
+      (returns (state_after_frames initial_state fs) (after_keeps initial_state fs begins) p q plain (success_routes (route_path false (state_after_frames initial_state fs) p) q e) (next_state step_frame (state_after_frames initial_state fs) (Some (out p))) refl);
   counts_outs = λ fs.
       let z : 0 + count_outs initial_state fs ≡ count_outs initial_state fs = omega arith in
       ap (λ (n : ℕ). success (big_endian32 n)) (after_counts initial_state fs begins ∙ ap saturate32 z);

@@ -1,7 +1,6 @@
 -- Meaning: A whole input: its lines, the frames parsed from them, and the output. Nothing here depends on how the input is split into blocks.
-use Rattle.std.specs.Prelude.{◌≡◌, false, ℕ, ◌+◌}
+use Rattle.std.specs.Prelude.{◌≡◌, false, ℕ, ◌+◌, Option, Some, None}
 use mathlib.Core.List.{List, [], ◌∷◌, ◌++◌, map}
-use Rattle.std.proofs.Math.Option.{Option, none, some}
 use Rattle.text.specs.Text.{Text}
 use Rattle.text.specs.Bytes.{newline}
 use Rattle.path_grammar.specs.Own.{has_variant_selection}
@@ -17,15 +16,15 @@ max_digits = 4096
 
 -- The frame of decoded bytes.
 abbrev pub frame_of_bytes : Option Text → Option Frame
-frame_of_bytes none = none
-frame_of_bytes (some b) = decode_frame b
+frame_of_bytes None = None
+frame_of_bytes (Some b) = decode_frame b
 
 -- The frame parsed from a line. Requirements: "one frame of hexadecimal digits (either case) a line"; "A bad frame gives FF09, an empty
 -- line and an overlong one .. too".
 unfoldable pub parse_line : Line → Option Frame
 unfolding decode_hex decode_frame
 parse_line (text t) = frame_of_bytes (decode_hex t)
-parse_line overlong = none
+parse_line overlong = None
 
 -- Generic in the type of state and in the step that a frame takes on it.
 module _ {S : Type 0} (step : S → Frame → Transition S) where
@@ -66,6 +65,6 @@ pub record InputTheorems : Type 0 where
   -- The reply to a line is appended to the replies to the lines before it, and is computed in the state after them.
   pub line_more : (ls : List Line) (l : Line) → answers_to (ls ++ l ∷ []) ≡ answers_to ls ++ answer_line step_frame (state_after ls) l
   -- If 05 with a path without selections is answered 00 with q, and the next line is 06 with q, that line is answered 00 with the path.
-  pub comes_home : (ls : List Line) (l k : Line) (p q : Text) → parse_line l ≡ some (out p) → has_variant_selection p ≡ false
-      → (step_frame (state_after ls) (out p)).answer ≡ success q → parse_line k ≡ some (home q)
+  pub comes_home : (ls : List Line) (l k : Line) (p q : Text) → parse_line l ≡ Some (out p) → has_variant_selection p ≡ false
+      → (step_frame (state_after ls) (out p)).answer ≡ success q → parse_line k ≡ Some (home q)
       → (answer_line step_frame (state_after ls) l ≡ accepted_line (5 + 128) q) × (answer_line step_frame (state_after (ls ++ l ∷ [])) k ≡ accepted_line (6 + 128) p)

@@ -1,10 +1,9 @@
 -- The step of a validated frame is the program's own step: for a path this is the quick way over maps, for the others the two are the same.
+use Rattle.std.specs.Prelude.{Result, Ok, Err, ⊤}
 use mathlib.Core.Path.{◌≡◌, refl, sym, ap}
 use mathlib.Core.Bool.{Bool, true, false}
 use mathlib.Core.List.{[], ◌∷◌}
 use Rattle.text.specs.Text.{Text}
-use Rattle.refusal.specs.declared.Validation.{Validation}
-use Rattle.refusal.specs.declared.Validation.TheVariants.{Passed, Refused}
 use Rattle.refusal.specs.Refusal.{refused_or}
 use Rattle.refusal.specs.Outcome.{Outcome}
 use Rattle.route_legs.specs.LentRoute.{validate_route}
@@ -13,16 +12,17 @@ use Rattle.frames_spec.specs.Frame.{add_one_pair, statuses, close, route, count}
 use Rattle.frames_spec.specs.State.{outcome_answer, Transition}
 use Rattle.frames_memory.specs.Memory.{FramesMemory, route_of, count_in, route_path_in, step_frame_in}
 use Rattle.frames_validate.specs.Checked.{validate_use, refuse_in, route_stored, step_frame_checked, QuickStep}
+use Rattle.refusal.specs.declared.Refusal.{Refusal}
 
 -- A validated path takes the same way.
-same_route : (m : FramesMemory) (back : Bool) (p : Text) → validate_route (route_of m) (p ∷ []) ≡ Passed → route_stored back m p ≡ route_path_in back m p
+same_route : (m : FramesMemory) (back : Bool) (p : Text) → validate_route (route_of m) (p ∷ []) ≡ Ok tt → route_stored back m p ≡ route_path_in back m p
 unfolding route_stored route_path_in
 same_route m back p h = sym (validated_maps_run back (route_of m) p h)
 
 -- Two steps that agree if validation passes agree after it.
-agree : (m : FramesMemory) (v : Validation) (s t : Transition FramesMemory) → (v ≡ Passed → s ≡ t) → refused_or v (refuse_in m) s ≡ refused_or v (refuse_in m) t
-agree m Passed s t h = h refl
-agree m (Refused x) s t h = refl
+agree : (m : FramesMemory) (v : Result ⊤ Refusal) (s t : Transition FramesMemory) → (v ≡ Ok tt → s ≡ t) → refused_or v (refuse_in m) s ≡ refused_or v (refuse_in m) t
+agree m (Ok tt) s t h = h refl
+agree m (Err x) s t h = refl
 
 -- A step that depends on the outcome of a path.
 routed : (m : FramesMemory) (back : Bool) (p : Text) (f : Outcome → Transition FramesMemory)

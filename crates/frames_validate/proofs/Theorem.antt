@@ -1,17 +1,15 @@
 -- The proof of the theorem: on memory that represents a state of the protocol, the validation changes nothing. Such memory passes it; a
 -- path that does not pass is refused with the same number by the step itself.
+use Rattle.std.specs.Prelude.{Result, Ok, Err, Option, Some, None, ⊤}
 use mathlib.Core.Path.{◌≡◌, refl, sym, ap, ◌∙◌, subst}
 use mathlib.Core.Bool.{Bool, true, false}
 use mathlib.Core.List.{List, [], ◌∷◌, ◌++◌}
-use mathlib.Core.Option.{Option, none, some}
 use Prim.Native.Nat.{ℕ, ◌+◌}
 use Rattle.text.specs.Text.{Text}
 use Rattle.hex_digits.specs.Hex.{encode_hex}
 use Rattle.line_reader.specs.Lines.{Line}
 use Rattle.line_reader.proofs.BlockLaws.{simulates}
 use Rattle.refusal.specs.declared.Refusal.{Refusal}
-use Rattle.refusal.specs.declared.Validation.{Validation}
-use Rattle.refusal.specs.declared.Validation.TheVariants.{Passed, Refused}
 use Rattle.refusal.specs.Refusal.{refused_or}
 use Rattle.refusal.specs.Outcome.{after_checks}
 use Rattle.path.specs.Calls.{path_new_call}
@@ -38,15 +36,15 @@ module _ (m : FramesMemory) (st : State) (g : Represents m st) where
   path_only p = sym (route_one_by_one (route_of m) p) ∙ ap (λ a. first_refusal a (path_new_call p)) (legs_pass m st g)
 
   -- A path that is refused is refused by the step.
-  path_refused : (k : ℕ) (back : Bool) (p : Text) (x : Refusal) → path_new_call p ≡ Refused x → step_frame_in m (frame k (route back p)) ≡ refuse_in m x
+  path_refused : (k : ℕ) (back : Bool) (p : Text) (x : Refusal) → path_new_call p ≡ Err x → step_frame_in m (frame k (route back p)) ≡ refuse_in m x
   unfolding step_frame_in route_path_in after_route_validated first_refusal after_checks
   path_refused k false p x e = rw e refl
   path_refused k true p x e = rw e refl
 
-  path_step : (k : ℕ) (back : Bool) (p : Text) (a : Validation) → path_new_call p ≡ a
+  path_step : (k : ℕ) (back : Bool) (p : Text) (a : Result ⊤ Refusal) → path_new_call p ≡ a
       → refused_or a (refuse_in m) (step_frame_in m (frame k (route back p))) ≡ step_frame_in m (frame k (route back p))
-  path_step k back p Passed e = refl
-  path_step k back p (Refused x) e = sym (path_refused k back p x e)
+  path_step k back p (Ok tt) e = refl
+  path_step k back p (Err x) e = sym (path_refused k back p x e)
 
   after_use : (k : ℕ) (a : Action) → refused_or (validate_use m a) (refuse_in m) (step_frame_in m (frame k a)) ≡ step_frame_in m (frame k a)
   unfolding validate_use
@@ -69,8 +67,8 @@ same_line m st l g = one (parse_line l)
   where
     one : (f : Option Frame) → (encode_hex (answer_frame step_frame_checked m f) ++ 10 ∷ [] ≡ encode_hex (answer_frame step_frame st f) ++ 10 ∷ [])
         × Represents (next_state step_frame_checked m f) (next_state step_frame st f)
-    one none = (refl, g)
-    one (some f) = (ap (λ (a : Answer). encode_hex ((kind f + 128) ∷ answer_bytes a) ++ 10 ∷ []) (steps m st g f).answers, (steps m st g f).holds)
+    one None = (refl, g)
+    one (Some f) = (ap (λ (a : Answer). encode_hex ((kind f + 128) ∷ answer_bytes a) ++ 10 ∷ []) (steps m st g f).answers, (steps m st g f).holds)
 
 outputs : (m : FramesMemory) (st : State) → Represents m st → (ls : List Line) → output_checked m ls ≡ output_of st ls
 outputs m st g ls = simulates Represents (next_line step_frame_checked) (answer_line step_frame_checked) (next_line step_frame) (answer_line step_frame) same_line ls m st g

@@ -1,10 +1,8 @@
 -- Meaning: The step of a frame on memory that the caller of a line keeps, and may have altered: what the frame uses of it is validated first.
-use Rattle.std.specs.Prelude.{◌≡◌, Bool, true, false, List, [], ◌∷◌, ℕ}
+use Rattle.std.specs.Prelude.{◌≡◌, Bool, true, false, List, [], ◌∷◌, ℕ, Result, Ok, ⊤}
 use Rattle.text.specs.Text.{Text}
 use Rattle.line_reader.specs.Lines.{Line, fold_answers}
 use Rattle.refusal.specs.declared.Refusal.{Refusal}
-use Rattle.refusal.specs.declared.Validation.{Validation}
-use Rattle.refusal.specs.declared.Validation.TheVariants.{Passed}
 use Rattle.refusal.specs.Refusal.{refused_or}
 use Rattle.refusal.specs.Outcome.{Outcome}
 use Rattle.validate.specs.Validate.{validate_call}
@@ -20,13 +18,13 @@ use Rattle.frames_memory.specs.Represents.{Represents, SameStep, output_of}
 -- Questions 1 to 4 for what an action uses of the memory: a close uses the open list; a path, the legs, and each question is put to both. The
 -- steps of the others put them themselves: adding a pair compares the size of the open list with its buffers (questions 4 and 5), and the
 -- statuses validate the open list.
-unfoldable pub validate_use : FramesMemory → Action → Validation
+unfoldable pub validate_use : FramesMemory → Action → Result ⊤ Refusal
 unfolding validate_call validate_route
-validate_use m (add_one_pair s t) = Passed
-validate_use m statuses = Passed
+validate_use m (add_one_pair s t) = Ok tt
+validate_use m statuses = Ok tt
 validate_use m (close relocates) = validate_call (open_list_of m ∷ []) [] []
 validate_use m (route back p) = validate_route (route_of m) (p ∷ [])
-validate_use m count = Passed
+validate_use m count = Ok tt
 
 -- The step of a refused frame, which leaves the memory unchanged.
 abbrev pub refuse_in : FramesMemory → Refusal → Transition FramesMemory

@@ -8,6 +8,8 @@ ghost use Rattle.frame_decode.specs.Header.{last_bytes, action_in};
 ghost use Rattle.frames_memory.specs.Memory.{frames_memory};
 ghost use Rattle.frames_validate.specs.Checked.{validate_use};
 
+use refusal::Refusal;
+
 // The last n bytes of a frame; the whole frame if it is shorter.
 fn last_bytes<'a>(frame: &'a [u8], n: usize) -> &'a [u8]
     ensures { result.now ≡ last_bytes n frame.now }
@@ -27,7 +29,7 @@ fn validate_path(
     slots: &[usize],
     table: &[usize],
     count: usize,
-) -> refusal::Validation
+) -> Result<(), Refusal>
     ensures { result ≡ validate_route (lent_route store.now slots.now table.now count)
         (last_bytes n frame.now ∷ []) }
 {
@@ -45,21 +47,21 @@ pub fn validate_use(
     store: &[u8],
     slots: &[usize],
     table: &[usize],
-) -> refusal::Validation
+) -> Result<(), Refusal>
     ensures { result ≡ validate_use (frames_memory k bytes.now places.now store.now
         slots.now table.now) (action_in frame.now header) }
 {
     let opened = k.opened;
     let legs = k.legs;
     match header {
-        frame_decode::FrameHeader::AddPair(n, m) => refusal::Validation::Passed,
-        frame_decode::FrameHeader::Statuses => refusal::Validation::Passed,
+        frame_decode::FrameHeader::AddPair(n, m) => Ok(()),
+        frame_decode::FrameHeader::Statuses => Ok(()),
         frame_decode::FrameHeader::Close(relocates) => {
             validate::validate_list(bytes, places, opened.pairs)
         }
         frame_decode::FrameHeader::Route(back, n) => {
             validate_path(frame, n, store, slots, table, legs.count)
         }
-        frame_decode::FrameHeader::Count => refusal::Validation::Passed,
+        frame_decode::FrameHeader::Count => Ok(()),
     }
 }

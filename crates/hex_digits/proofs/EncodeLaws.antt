@@ -1,23 +1,13 @@
--- Lemmas about the digits of bytes by index, and for the branches of `hex_digit` and `encode`.
+-- Lemmas about the digits of bytes by index, and for the branches of `encode`.
 use mathlib.Core.Path.{◌≡◌, refl, ◌∙◌}
 use mathlib.Core.List.{[], ◌∷◌}
 use Prim.Native.Nat.{ℕ, zero, suc, ◌+◌, ◌-◌, ◌*◌, ◌/◌, ◌%◌, ◌≤◌, ◌<◌}
 use native.Mathlib.Omega.{arith}
 use lib.ListN.{length, get_or, set}
 use lib.Seq.{paste}
-use borrow.Author.Tests.{lt-ltb, le-ltb}
 use Rattle.text.specs.Text.{Text, written_if_fits}
 use Rattle.text.proofs.WriteLaws.{put_begin, put_on, put_length, put_end, put_outside, put_over}
 use Rattle.hex_digits.specs.Hex.{hex_digit, encode_hex}
-
--- Lemmas for `hex_digit`.
-pub digit_decimal : (v : ℕ) → v < 10 → 48 + v ≡ hex_digit v
-digit_decimal v h = rw (lt-ltb v 10 h)
-
-pub digit_capital : (v : ℕ) → 10 ≤ v → 55 + v ≡ hex_digit v
-digit_capital v h = rw (le-ltb v 10 h)
-
-pub ruleset capitals = (digit_decimal, digit_capital)
 
 -- Lemmas for `encode`.
 pub encoded_length : (t : Text) → length (encode_hex t) ≡ 2 * length t

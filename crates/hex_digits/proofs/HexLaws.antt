@@ -1,43 +1,38 @@
--- Lemmas about the value of a byte, given the range that the code has found it in.
+-- Lemmas about the value of a byte.
+use Rattle.std.specs.Prelude.{Some, None}
+use Rattle.std.specs.Char.{is_ascii_hexdigit}
 use mathlib.Core.Path.{◌≡◌, refl}
-use mathlib.Core.Bool.{Bool, true, false, cond}
-use mathlib.Core.Option.{none, some}
+use mathlib.Core.Bool.{Bool, true, false, cond, ◌||◌}
 use Prim.Native.Nat.{ℕ, ◌-◌, ◌≤◌, ◌<◌}
 use native.Mathlib.Omega.{arith}
 use Rattle.text.specs.Range.{in_range}
-use Rattle.text.proofs.RangeLaws.{within_yes, within_below, within_above, within_high}
+use Rattle.text.proofs.RangeLaws.{within_yes, within_above, within_high}
 use Rattle.hex_digits.specs.Hex.{hex_value}
-use Rattle.hex_digits.specs.Calls.{value_or_zero}
+use Rattle.hex_digits.specs.Calls.{has_value, value_or_zero}
 
--- Lemmas for `is_digit` and `hex_value`.
 module _ (b : ℕ) where
-  pub below_decimals : b < 48 → none ≡ hex_value b
-  unfolding hex_value
-  below_decimals h = rw (within_below 48 57 b h, within_below 65 70 b (omega arith), within_below 97 102 b (omega arith))
-
-  pub a_decimal : 48 ≤ b → b < 58 → some (b - 48) ≡ hex_value b
+  pub a_decimal : 48 ≤ b → b < 58 → Some (b - 48) ≡ hex_value b
   unfolding hex_value
   a_decimal h k = rw (within_yes 48 57 b h (omega arith))
 
-  pub below_capitals : 58 ≤ b → b < 65 → none ≡ hex_value b
-  unfolding hex_value
-  below_capitals h k = rw (within_above 48 57 b (omega arith), within_below 65 70 b k, within_below 97 102 b (omega arith))
-
-  pub a_capital : 65 ≤ b → b < 71 → some (b - 55) ≡ hex_value b
+  pub a_capital : 65 ≤ b → b < 71 → Some (b - 55) ≡ hex_value b
   unfolding hex_value
   a_capital h k = rw (within_above 48 57 b (omega arith), within_yes 65 70 b h (omega arith))
 
-  pub below_small : 71 ≤ b → b < 97 → none ≡ hex_value b
-  unfolding hex_value
-  below_small h k = rw (within_above 48 57 b (omega arith), within_above 65 70 b (omega arith), within_below 97 102 b k)
-
-  pub a_small : 97 ≤ b → b < 103 → some (b - 87) ≡ hex_value b
+  pub a_small : 97 ≤ b → b < 103 → Some (b - 87) ≡ hex_value b
   unfolding hex_value
   a_small h k = rw (within_above 48 57 b (omega arith), within_above 65 70 b (omega arith), within_yes 97 102 b h (omega arith))
 
-  pub above_small : 103 ≤ b → none ≡ hex_value b
+  -- The library's test of a digit.
+  pub digit_test : is_ascii_hexdigit b ≡ has_value (hex_value b)
   unfolding hex_value
-  above_small h = rw (within_above 48 57 b (omega arith), within_above 65 70 b (omega arith), within_above 97 102 b (omega arith))
+  digit_test = go (in_range 48 57 b) (in_range 65 70 b) (in_range 97 102 b)
+    where
+      go : (p q r : Bool) → (p || q || r) ≡ has_value (cond p (Some (b - 48)) (cond q (Some (b - 55)) (cond r (Some (b - 87)) None)))
+      go true q r = refl
+      go false true r = refl
+      go false false true = refl
+      go false false false = refl
 
   -- A value is below 16.
   pub value_small : value_or_zero (hex_value b) ≤ 15
@@ -45,7 +40,7 @@ module _ (b : ℕ) where
   value_small = go (in_range 48 57 b) (in_range 65 70 b) (in_range 97 102 b) refl refl refl
     where
       go : (p q r : Bool) → in_range 48 57 b ≡ p → in_range 65 70 b ≡ q → in_range 97 102 b ≡ r
-          → value_or_zero (cond p (some (b - 48)) (cond q (some (b - 55)) (cond r (some (b - 87)) none))) ≤ 15
+          → value_or_zero (cond p (Some (b - 48)) (cond q (Some (b - 55)) (cond r (Some (b - 87)) None))) ≤ 15
       go true q r e f g = omega (arith, within_high 48 57 b e)
       go false true r e f g = omega (arith, within_high 65 70 b f)
       go false false true e f g = omega (arith, within_high 97 102 b g)

@@ -1,8 +1,8 @@
 -- The theorems that decoding inverts encoding and that the case of the digits does not matter.
+use Rattle.std.specs.Prelude.{Some}
 use mathlib.Core.Path.{◌≡◌, refl, sym, ap, ◌∙◌}
 use mathlib.Core.Bool.{Bool, true, false, cond}
 use mathlib.Core.List.{[], ◌∷◌}
-use mathlib.Core.Option.{some}
 use Prim.Native.Nat.{ℕ, ◌+◌, ◌-◌, ◌*◌, ◌/◌, ◌%◌, ◌≤◌, ◌<◌}
 use native.Mathlib.Omega.{arith}
 use lib.Dec.{ltb}
@@ -14,16 +14,16 @@ use Rattle.hex_digits.specs.Hex.{hex_value, decode_hex, hex_digit, encode_hex, a
 use Rattle.hex_digits.proofs.HexLaws.{a_decimal, a_capital, a_small}
 
 -- An upper-case digit has the value it was written for.
-capital_value : (v : ℕ) → v < 16 → hex_value (hex_digit v) ≡ some v
+capital_value : (v : ℕ) → v < 16 → hex_value (hex_digit v) ≡ Some v
 capital_value v h = go (ltb v 10) refl
   where
-    go : (t : Bool) → ltb v 10 ≡ t → hex_value (cond t (48 + v) (55 + v)) ≡ some v
+    go : (t : Bool) → ltb v 10 ≡ t → hex_value (cond t (48 + v) (55 + v)) ≡ Some v
     go true e =
         let k : 48 + v - 48 ≡ v = omega arith in
-        sym (a_decimal (48 + v) (omega arith) (omega (arith, ltb-true v 10 e))) ∙ ap some k
+        sym (a_decimal (48 + v) (omega arith) (omega (arith, ltb-true v 10 e))) ∙ ap Some k
     go false e =
         let k : 55 + v - 55 ≡ v = omega arith in
-        sym (a_capital (55 + v) (omega (arith, ltb-false v 10 e)) (omega arith)) ∙ ap some k
+        sym (a_capital (55 + v) (omega (arith, ltb-false v 10 e)) (omega arith)) ∙ ap Some k
 
 pub comes_back : HexRoundTrip
 unfolding HexRoundTrip decode_hex encode_hex are_bytes
@@ -42,7 +42,7 @@ upper_value b = go (in_range 97 102 b) refl
         let l : 97 ≤ b = within_low 97 102 b e in
         let h : b ≤ 102 = within_high 97 102 b e in
         let k : b - 32 - 55 ≡ b - 87 = omega arith in
-        sym (a_capital (b - 32) (omega arith) (omega arith)) ∙ ap some k ∙ a_small b l (omega arith)
+        sym (a_capital (b - 32) (omega arith) (omega arith)) ∙ ap Some k ∙ a_small b l (omega arith)
     go false e = refl
 
 pub either_case : CaseInsensitive

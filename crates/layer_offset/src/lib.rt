@@ -3,7 +3,7 @@
 #![tactic(auto)]
 
 ghost use Rattle.std.specs.Prelude.{◌≡◌};
-ghost use Rattle.layer_offset.specs.Offset.{layer_offset, is_identity, is_valid, is_valid_composition, sanitized, apply_offset, concatenate_offsets, inverse_offset, offset_bits, same_bits, is_near, is_close};
+ghost use Rattle.layer_offset.specs.Offset.{layer_offset, is_identity, is_valid, is_valid_composition, sanitized, apply_offset, concatenate_offsets, inverse_offset, offset_bits, is_near, is_close};
 ghost use Rattle.layer_offset.specs.Number.{plus_zero};
 
 mod number;
@@ -16,17 +16,8 @@ pub struct LayerOffset {
 }
 
 // The bit patterns of an offset and a scale.
-#[derive(Clone, Copy)]
+#[derive(Clone, Copy, PartialEq, Eq)]
 pub struct OffsetBits(pub u64, pub u64);
-
-impl OffsetBits {
-    // Returns whether both patterns are equal.
-    fn is_same(self, other: OffsetBits) -> bool
-        ensures { result ≡ same_bits self other }
-    {
-        self.0 == other.0 && self.1 == other.1
-    }
-}
 
 impl LayerOffset {
     // The identity: offset 0, scale 1.
@@ -53,7 +44,7 @@ impl LayerOffset {
     pub fn is_valid(self) -> bool
         ensures { result ≡ is_valid self }
     {
-        number::is_finite(self.offset) && number::is_finite(self.scale)
+        self.offset.is_finite() && self.scale.is_finite()
     }
 
     // Returns whether this is (0, 1); -0.0 counts as 0.0.
@@ -71,7 +62,7 @@ impl LayerOffset {
         if self.is_valid() {
             return other.is_valid() && self.is_near(other);
         }
-        !other.is_valid() && self.to_bits().is_same(other.to_bits())
+        !other.is_valid() && self.to_bits() == other.to_bits()
     }
 
     // Returns whether both numbers are within 1e-6 of the other's.

@@ -1,23 +1,15 @@
-// Functions on one f64 that Rust has as methods.
+// Functions on one f64.
 ghost use Rattle.std.specs.Prelude.{◌≡◌};
 ghost use Rattle.layer_offset.specs.Number as spec;
 
 // The distance below which two valid time offsets are close.
 const TOLERANCE: f64 = 1e-6;
 
-// Returns whether the number is neither an infinity nor a NaN: x - x is NaN for those, and zero for
-// every other number.
-pub fn is_finite(x: f64) -> bool
-    ensures { result ≡ spec.is_finite x }
-{
-    x - x == 0.0
-}
-
 // Returns whether the number is closer to zero than the tolerance.
 pub fn is_small(x: f64) -> bool
     ensures { result ≡ spec.is_small x }
 {
-    -TOLERANCE < x && x < TOLERANCE
+    x.abs() < TOLERANCE
 }
 
 // Returns the bits of the number; one fixed pattern for every NaN, because the bits of a NaN are left
@@ -25,8 +17,8 @@ pub fn is_small(x: f64) -> bool
 pub fn pattern(x: f64) -> u64
     ensures { result ≡ spec.bit_pattern x }
 {
-    if x != x {
+    if x.is_nan() {
         return 0x7ff8_0000_0000_0000;
     }
-    f64::to_bits(x)
+    x.to_bits()
 }

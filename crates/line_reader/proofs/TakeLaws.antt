@@ -1,35 +1,31 @@
 -- Lemmas for the branches of the functions of this crate.
 use mathlib.Core.Path.{◌≡◌, refl, sym}
-use mathlib.Core.Logic.{◌≢◌}
 use mathlib.Core.Bool.{Bool, true, false, cond}
 use mathlib.Core.List.{[], ◌∷◌}
-use Prim.Native.Nat.{ℕ, suc, ◌+◌, ◌-◌, ◌≤◌, ◌<◌}
-use native.Mathlib.Numerals.{add-one}
+use Prim.Native.Nat.{ℕ, suc, min, ◌+◌, ◌-◌, ◌≤◌, ◌<◌}
 use native.Mathlib.Omega.{arith}
 use lib.Dec.{eqb, leb}
-use lib.ListN.{length, get_or, take, drop, drop_of_length-le}
-use lib.Seq.{drop-cons, length-take-le}
-use borrow.Author.Tests.{eq-eqb, ne_eqb, le-leb, lt-leb, leb-true, leb-false, lt-ltb, le-ltb}
+use lib.ListN.{length, take}
+use lib.Seq.{length-take-le}
+use borrow.Author.Tests.{le-leb, lt-leb, leb-true, leb-false, lt-ltb, le-ltb}
+use Rattle.std.specs.List.{position_or_len}
+use Rattle.std.proofs.lemmas.List.Recursion.{is_position_or_len}
+use Rattle.std.proofs.lemmas.Bool.Decides.{nat_tests}
 use Rattle.text.specs.Text.{Text, written_if_fits}
 use Rattle.line_reader.specs.TakeLine.{newline_index, line_length_after, line_buffer_after, take_line_reply, take_line_buffer}
 use Rattle.line_reader.specs.Lines.{line_capacity}
 
--- Lemmas for `newline_index`.
-pub newline_on : (s : Text) (i : ℕ) → i < length s → get_or s i 0 ≢ 10 → newline_index s ≡ i + newline_index (drop i s) → newline_index s ≡ i + 1 + newline_index (drop (i + 1) s)
+-- The index of the first newline is what `position` finds.
+pub newline_position : (s : Text) → newline_index s ≡ position_or_len (λ b. eqb b 10) s
 unfolding newline_index
-newline_on s i h d e =
-    let k : newline_index (drop i s) ≡ suc (newline_index (drop (i + 1) s)) = rw (add-one, drop-cons s i 0 h, ne_eqb (get_or s i 0) 10 d) in
-    omega arith
-
-pub newline_found : (s : Text) (i : ℕ) → i < length s → get_or s i 0 ≡ 10 → newline_index s ≡ i + newline_index (drop i s) → i ≡ newline_index s
-unfolding newline_index
-newline_found s i h d e = let k : newline_index (drop i s) ≡ 0 = rw (drop-cons s i 0 h, eq-eqb (get_or s i 0) 10 d) in omega arith
-
-pub newline_none : (s : Text) (i : ℕ) → length s ≤ i → newline_index s ≡ i + newline_index (drop i s) → i ≡ newline_index s
-unfolding newline_index
-newline_none s i h e = let k : newline_index (drop i s) ≡ 0 = rw (drop_of_length-le s h) in omega arith
-
-pub ruleset newlines = (newline_on, newline_found, newline_none)
+newline_position s = is_position_or_len newline_index (λ b. eqb b 10) refl step s
+  where
+    step : (b : ℕ) (r : Text) → newline_index (b ∷ r) ≡ cond (eqb b 10) 0 (1 + newline_index r)
+    step b r = go (eqb b 10)
+      where
+        go : (t : Bool) → cond t 0 (suc (newline_index r)) ≡ cond t 0 (1 + newline_index r)
+        go true = refl
+        go false = omega arith
 
 -- The first newline, or the end, lies within the text.
 pub stop_le : (s : Text) → newline_index s ≤ length s
@@ -41,16 +37,10 @@ stop_le (b ∷ s) = go (eqb b 10) (stop_le s)
     go true h = omega arith
     go false h = omega arith
 
--- Lemmas for `line_capacity`.
-pub most_room : (room : ℕ) → room ≤ 4096 → room ≡ line_capacity room
+-- The lesser of the capacity and the maximum length.
+pub most_min : (room : ℕ) → min room 4096 ≡ line_capacity room
 unfolding line_capacity
-most_room room h = rw (le-leb room 4096 h)
-
-pub most_limit : (room : ℕ) → 4096 < room → 4096 ≡ line_capacity room
-unfolding line_capacity
-most_limit room h = rw (lt-leb room 4096 h)
-
-pub ruleset mosts = (most_room, most_limit)
+most_min room = grind (arith, nat_tests)
 
 pub most_small : (room : ℕ) → line_capacity room ≤ 4096
 unfolding line_capacity

@@ -9,7 +9,8 @@ ghost use Rattle.line_reader.specs.Lines.{line_capacity};
 // The maximum length of a line in bytes.
 const MOST: usize = 4096;
 
-// The part of a block that one call consumed, and the line so far.
+// The part of a block that one call consumed, and the line so far. `used` and `len` say as much whether or not the line
+// has ended, so `done` is a flag of its own.
 #[derive(Clone, Copy)]
 pub struct Taken {
     // Number of bytes of the block that were consumed.
@@ -24,24 +25,17 @@ pub struct Taken {
 fn newline_index(block: &[u8]) -> usize
     ensures { result ≡ newline_index block.now }
 {
-    let mut i = 0;
-    while i < block.len() {
-        if block[i] == b'\n' {
-            return i;
-        }
-        i += 1;
-    }
-    i
+    block
+        .iter()
+        .position(|b| *b == b'\n')
+        .unwrap_or(block.len())
 }
 
 // The maximum line length for a line buffer of capacity `room`.
 fn line_capacity(room: usize) -> usize
     ensures { result ≡ line_capacity room }
 {
-    if room <= MOST {
-        return room;
-    }
-    MOST
+    room.min(MOST)
 }
 
 // Appends bytes to the line so far and returns its new length; bytes that make the line overlong are not
@@ -52,10 +46,7 @@ fn append_to_line(s: &[u8], line: &mut [u8], len: usize) -> usize
         line.old }
 {
     let most = line_capacity(line.len());
-    if most < len {
-        return most + 1;
-    }
-    if most - len < s.len() {
+    if most < len || most - len < s.len() {
         return most + 1;
     }
     text::write_at(s, len, line);

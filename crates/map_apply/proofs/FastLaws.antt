@@ -1,8 +1,8 @@
 -- For ends and a legal path of at most 255 bytes, the outcomes of the code are those of the definitions with the questions.
+use Rattle.std.specs.Prelude.{Option, Some, None}
 use mathlib.Core.Path.{◌≡◌, refl, sym, ap, ◌∙◌}
 use mathlib.Core.Bool.{Bool, true, false, not, cond, ◌&&◌, ◌||◌, true≢false, false≢true}
 use mathlib.Core.List.{[], ◌∷◌, ◌++◌}
-use mathlib.Core.Option.{Option, none, some}
 use Prim.Native.Nat.{ℕ, ◌+◌, ◌≤◌}
 use native.Mathlib.Omega.{arith}
 use lib.Dec.{eqb}
@@ -90,28 +90,28 @@ joining_made s t p es ns et lp sp h = go (join_illegal t r) refl
         rw (legal-is, e, f)
     go false e = rw (legal-is, e)
 
-served : (p : Text) (key : ℕ → Text) (n i : ℕ) → longest_match p key n ≡ some i → (is_nil (key i) ≡ false) × (has_prefix p (key i) ≡ true)
+served : (p : Text) (key : ℕ → Text) (n i : ℕ) → longest_match p key n ≡ Some i → (is_nil (key i) ≡ false) × (has_prefix p (key i) ≡ true)
 unfolding longest_match matches
 served p key n i e =
     let h : (not (is_nil (key i)) && has_prefix p (key i)) ≡ true = (chosen_best (matches p) key n i e).does_pass in
     (not_true (is_nil (key i)) (and_l (not (is_nil (key i))) (has_prefix p (key i)) h), and_r (not (is_nil (key i))) (has_prefix p (key i)) h)
 
 module _ (m : Map) (a b : ℕ → Text) (p : Text) (ea : (i : ℕ) → is_end (a i) ≡ true) (eb : (i : ℕ) → is_end (b i) ≡ true) (lp : legal p ≡ true) (sp : length p ≤ 255) where
-  kept : (mark : Bool) → keep_path mark p ≡ checked_option (cond mark (some p) none)
+  kept : (mark : Bool) → keep_path mark p ≡ checked_option (cond mark (Some p) None)
   unfolding keep_path checked_option checked
   kept true = rw (short_fits p sp, lp)
   kept false = refl
 
   carried : (i : ℕ) (c : Bool) → is_nil (a i) ≡ false → has_prefix p (a i) ≡ true
-      → cond c (refused NoPath) (join_checked (a i) (b i) (drop (length (a i)) p)) ≡ checked_option (cond c none (replace_prefix p (a i) (b i)))
+      → cond c (refused NoPath) (join_checked (a i) (b i) (drop (length (a i)) p)) ≡ checked_option (cond c None (replace_prefix p (a i) (b i)))
   unfolding checked_option
   carried i true n h = refl
   carried i false n h = joining_made (a i) (b i) p (ea i) n (eb i) lp sp h ∙ ap checked_option (sym (replace_prefix_lem p (a i) (b i) h))
 
   fast_checked : (n : ℕ) (o : Option ℕ) → longest_match p a n ≡ o → map_fast_by m.mark a b (map_target m) p o ≡ checked_option (map_by m a b p o)
   unfolding map_fast_by
-  fast_checked n none e = kept m.mark
-  fast_checked n (some i) e = let w = served p a n i e in carried i (is_nil (map_target m i)) w.0 w.1
+  fast_checked n None e = kept m.mark
+  fast_checked n (Some i) e = let w = served p a n i e in carried i (is_nil (map_target m i)) w.0 w.1
 
 -- The outcomes of the code are those of the definitions.
 module _ (m : Map) (p : Text) (em : all_ends m.pairs ≡ true) (lp : legal p ≡ true) (sp : length p ≤ 255) where
@@ -127,7 +127,7 @@ chosen_unfolded : (m : Map) (p : Text) → longest_match p (map_source m) (map_s
 unfolding match_source
 chosen_unfolded m p = refl
 
-no_pair : (m : Map) (i : ℕ) → refused NoPath ≡ checked_option (require_invertible m (some i) none)
+no_pair : (m : Map) (i : ℕ) → refused NoPath ≡ checked_option (require_invertible m (Some i) None)
 unfolding checked_option require_invertible
 no_pair m i = refl
 
@@ -136,13 +136,13 @@ join_short : (s t r : Text) → length t ≤ 255 → length r ≤ 255 → length
 join_short s t r h k = rw (join_length s t r) (omega (arith, separator_short_lem s t r, body_short s r))
 
 module _ (m : Map) (p : Text) (em : all_ends m.pairs ≡ true) (sm : all_short m.pairs ≡ true) (lp : legal p ≡ true) (sp : length p ≤ 255) where
-  marked : (mark : Bool) (o : Option ℕ) → cond (mark && is_none o) (keep_path true p) (refused NoPath) ≡ checked_option (cond mark (cond (eq_index none o) (some p) none) none)
+  marked : (mark : Bool) (o : Option ℕ) → cond (mark && is_none o) (keep_path true p) (refused NoPath) ≡ checked_option (cond mark (cond (eq_index None o) (Some p) None) None)
   unfolding checked_option
-  marked true none = kept m (map_source m) (map_target m) p (ends_source m.pairs em) (ends_target m.pairs em) lp sp true
-  marked true (some j) = refl
+  marked true None = kept m (map_source m) (map_target m) p (ends_source m.pairs em) (ends_target m.pairs em) lp sp true
+  marked true (Some j) = refl
   marked false o = refl
 
-  lost : (mark : Bool) → require_invertible m none (cond mark (some p) none) ≡ cond mark (cond (eq_index none (match_target m p)) (some p) none) none
+  lost : (mark : Bool) → require_invertible m None (cond mark (Some p) None) ≡ cond mark (cond (eq_index None (match_target m p)) (Some p) None) None
   unfolding require_invertible
   lost true = refl
   lost false = refl
@@ -151,33 +151,33 @@ module _ (m : Map) (p : Text) (em : all_ends m.pairs ≡ true) (sm : all_short m
     abbrev j : Text
     j = join (map_source m i) (map_target m i) (drop (length (map_source m i)) p)
 
-    pair : translate_by_pair m i (map_source m i) (map_target m i) (drop (length (map_source m i)) p) ≡ checked_option (require_invertible m (some i) (replace_prefix p (map_source m i) (map_target m i)))
+    pair : translate_by_pair m i (map_source m i) (map_target m i) (drop (length (map_source m i)) p) ≡ checked_option (require_invertible m (Some i) (replace_prefix p (map_source m i) (map_target m i)))
     unfolding translate_by_pair require_invertible checked_option
     pair =
         rw (
           replace_prefix_lem p (map_source m i) (map_target m i) h,
           le-leb (length j) 512 (join_short (map_source m i) (map_target m i) (drop (length (map_source m i)) p) (short_at m.pairs sm i).1 rest_short),
         )
-        (go (eq_index (some i) (match_target m j)))
+        (go (eq_index (Some i) (match_target m j)))
       where
         rest_short : length (drop (length (map_source m i)) p) ≤ 255
         rest_short = simp length-drop (omega arith)
 
-        go : (b : Bool) → cond b (join_checked (map_source m i) (map_target m i) (drop (length (map_source m i)) p)) (refused NoPath) ≡ checked_option (cond b (some j) none)
+        go : (b : Bool) → cond b (join_checked (map_source m i) (map_target m i) (drop (length (map_source m i)) p)) (refused NoPath) ≡ checked_option (cond b (Some j) None)
         go true = joining_made (map_source m i) (map_target m i) p (ends_source m.pairs em i) n (ends_target m.pairs em i) lp sp h
         go false = refl
 
   translate_by : (o : Option ℕ) → match_source m p ≡ o → translate_fast_by m p o ≡ checked_option (require_invertible m o (map_by m (map_source m) (map_target m) p o))
   unfolding translate_fast_by translate_by_mark
-  translate_by none e = rw (lost m.mark) (marked m.mark (match_target m p))
-  translate_by (some i) e = let w = matched_out i e in blocked (is_nil (map_target m i)) (pair i w.0 w.1)
+  translate_by None e = rw (lost m.mark) (marked m.mark (match_target m p))
+  translate_by (Some i) e = let w = matched_out i e in blocked (is_nil (map_target m i)) (pair i w.0 w.1)
     where
-      matched_out : (i : ℕ) → match_source m p ≡ some i → (is_nil (map_source m i) ≡ false) × (has_prefix p (map_source m i) ≡ true)
+      matched_out : (i : ℕ) → match_source m p ≡ Some i → (is_nil (map_source m i) ≡ false) × (has_prefix p (map_source m i) ≡ true)
       matched_out i e = served p (map_source m) (map_size m) i (chosen_unfolded m p ∙ e)
 
-      blocked : (b : Bool) → translate_by_pair m i (map_source m i) (map_target m i) (drop (length (map_source m i)) p) ≡ checked_option (require_invertible m (some i) (replace_prefix p (map_source m i) (map_target m i)))
+      blocked : (b : Bool) → translate_by_pair m i (map_source m i) (map_target m i) (drop (length (map_source m i)) p) ≡ checked_option (require_invertible m (Some i) (replace_prefix p (map_source m i) (map_target m i)))
           → cond b (refused NoPath) (translate_by_pair m i (map_source m i) (map_target m i) (drop (length (map_source m i)) p))
-          ≡ checked_option (require_invertible m (some i) (cond b none (replace_prefix p (map_source m i) (map_target m i))))
+          ≡ checked_option (require_invertible m (Some i) (cond b None (replace_prefix p (map_source m i) (map_target m i))))
       blocked true w = no_pair m i
       blocked false w = w
 

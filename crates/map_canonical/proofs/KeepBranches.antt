@@ -1,9 +1,9 @@
 -- Lemmas for the branches of the functions that select the pairs to keep.
+use Rattle.std.specs.Prelude.{Option, Some, None}
 use mathlib.Core.Path.{◌≡◌, refl, sym, ap, ◌∙◌}
 use mathlib.Core.Logic.{◌≢◌}
 use mathlib.Core.Bool.{Bool, true, false, not, cond, ◌||◌}
 use mathlib.Core.List.{List, [], ◌∷◌, ◌++◌}
-use mathlib.Core.Option.{Option, none, some}
 use Prim.Native.Nat.{ℕ, zero, suc, max, ◌+◌, ◌-◌, ◌/◌, ◌≤◌, ◌<◌}
 use native.Mathlib.Omega.{arith}
 use native.Mathlib.Numerals.{add-one}
@@ -12,9 +12,8 @@ use lib.ListN.{length, get_or, take, drop, set}
 use borrow.Author.Tests.{le-leb, eq-eqb, ne_eqb}
 use lib.Seq.{get_or-set_same, get_or-set_other}
 use Rattle.text.specs.Text.{Text, equal}
-use Rattle.text.proofs.BoolLaws.{told, known_false, known_true, not_true, not_false, or_right, or_false}
+use Rattle.text.proofs.BoolLaws.{told, not_true, not_false, or_right, or_false}
 use Rattle.text.proofs.WriteLaws.{rest_whole}
-use Rattle.path_grammar.specs.Legal.{is_root}
 use Rattle.path_prefix.specs.Elements.{element_count}
 use Rattle.path_join.specs.Join.{join, replace_prefix}
 use Rattle.path_join.proofs.ReplaceLaws.{replace_prefix_lem}
@@ -22,11 +21,8 @@ use Rattle.pair_list.specs.Pair.{Pair}
 use Rattle.pair_list.specs.Places.{key_at, pair_in, pairs_in}
 use Rattle.pair_list_write.specs.Lists.{copy_entry}
 use Rattle.pair_list.specs.LongestMatch.{longest_match, matches}
-use Rattle.map_lookup.specs.LookupStep.{found_of}
-use Rattle.map_lookup.proofs.FoundLaws.{found_none, found_some}
-use Rattle.map_lookup.specs.declared.Found.{Found}
 use Rattle.pair_list.proofs.PlaceLaws.{pair_is}
-use Rattle.pair_list_write.proofs.WriteBranches.{source_key, target_key}
+use Rattle.pair_list_write.proofs.WriteBranches.{source_key}
 use Rattle.validate.specs.Validate.{lent_list, count_within_limit}
 use Rattle.validate.specs.Select.{can_select, pairs_if_selectable}
 use Rattle.map_spec.specs.Map.{Map, lent_map, map_source, map_target}
@@ -34,17 +30,6 @@ use Rattle.map_spec.specs.New.{is_root_pair, any_root_pair, without_root_pairs, 
 use Rattle.map_spec.proofs.LentLaws.{matched_long, out_keys, ends_by}
 use Rattle.map_canonical.specs.Canonical.{source_elements, max_elements, HoldsElementCounts, keeps_pair}
 use Rattle.pair_list.proofs.LongestMatchLaws.{chosen_best, served}
-
--- Lemmas for `is_root_pair`.
-module _ (store : Text) (places : List ℕ) (i : ℕ) (k : Text) (e : k ≡ key_at store places false i) (b : Bool) (h : b ≡ is_root k) where
-  source_known : b ≡ is_root (pair_in store places i).source
-  source_known = h ∙ ap is_root (e ∙ sym (source_key store places i))
-
-  pub roots_not : not b ≡ true → false ≡ is_root_pair (pair_in store places i)
-  roots_not l = rw (known_false source_known l)
-
-  pub roots_both : not b ≡ false → (t : Text) → t ≡ key_at store places true i → (c : Bool) → c ≡ is_root t → c ≡ is_root_pair (pair_in store places i)
-  roots_both l t f c m = rw (known_true source_known l) (m ∙ ap is_root (f ∙ sym (target_key store places i)))
 
 -- Lemmas for `any_root_pair`.
 any_append : (a b : List Pair) → any_root_pair (a ++ b) ≡ (any_root_pair a || any_root_pair b)
@@ -123,7 +108,7 @@ module _ (store : Text) (places : List ℕ) where
   most_end n i top h k e = let z : i ≡ n = omega arith in rw z at e
 
 -- Lemmas for `is_redundant`.
-module _ (store : Text) (kept : List ℕ) (n : ℕ) (mark : Bool) (s t : Text) (f : Found) (h : f ≡ found_of (longest_match s (key_at store kept false) n)) where
+module _ (store : Text) (kept : List ℕ) (n : ℕ) (mark : Bool) (s t : Text) (f : Option ℕ) (h : f ≡ longest_match s (key_at store kept false) n) where
   abbrev lent : Map
   lent = lent_map store kept n mark
 
@@ -134,37 +119,37 @@ module _ (store : Text) (kept : List ℕ) (n : ℕ) (mark : Bool) (s t : Text) (
   unfolding is_redundant map_via
   implied_by o e = rw (out_keys store kept n mark s, e) refl
 
-  module _ (k : f.found ≡ true) where
-    chosen : longest_match s (key_at store kept false) n ≡ some f.at
-    chosen = found_some f (longest_match s (key_at store kept false) n) h k
+  module _ (idx : ℕ) (k : f ≡ Some idx) where
+    chosen : longest_match s (key_at store kept false) n ≡ Some idx
+    chosen = sym h ∙ k
 
-    serving : matches s (key_at store kept false f.at) ≡ true
+    serving : matches s (key_at store kept false idx) ≡ true
     unfolding longest_match
-    serving = (chosen_best (matches s) (key_at store kept false) n f.at chosen).does_pass
+    serving = (chosen_best (matches s) (key_at store kept false) n idx chosen).does_pass
 
-    pub implied_inside : (old : Text) → old ≡ key_at store kept false f.at → length old ≤ length s
-    implied_inside old e = rw e (matched_long s (key_at store kept false f.at) serving)
+    pub implied_inside : (old : Text) → old ≡ key_at store kept false idx → length old ≤ length s
+    implied_inside old e = rw e (matched_long s (key_at store kept false idx) serving)
 
-    pub implied_join : (old new : Text) → old ≡ key_at store kept false f.at → new ≡ key_at store kept true f.at → (r : Bool)
+    pub implied_join : (old new : Text) → old ≡ key_at store kept false idx → new ≡ key_at store kept true idx → (r : Bool)
         → r ≡ equal (join old new (take (length s - length old) (drop (length old) s))) t → r ≡ is_redundant lent x
     unfolding is_some_text map_via_pair
     implied_join old new e g r m =
-        let z = ends_by store kept n mark s false f.at chosen in
-        let p : replace_prefix s (map_source lent f.at) (map_target lent f.at) ≡ some (join old new (drop (length old) s))
-        = rw (z.0, z.1, ← e, ← g) (replace_prefix_lem s old new (rw (← e) at (served s (key_at store kept false f.at) serving))) in
-        m ∙ rw (rest_whole s (length old)) (sym (implied_by (some f.at) chosen ∙ rw p refl))
+        let z = ends_by store kept n mark s false idx chosen in
+        let p : replace_prefix s (map_source lent idx) (map_target lent idx) ≡ Some (join old new (drop (length old) s))
+        = rw (z.0, z.1, ← e, ← g) (replace_prefix_lem s old new (rw (← e) at (served s (key_at store kept false idx) serving))) in
+        m ∙ rw (rest_whole s (length old)) (sym (implied_by (Some idx) chosen ∙ rw p refl))
 
-  module _ (k : f.found ≡ false) where
-    left_out : longest_match s (key_at store kept false) n ≡ none
-    left_out = found_none f (longest_match s (key_at store kept false) n) h k
+  module _ (k : f ≡ None) where
+    left_out : longest_match s (key_at store kept false) n ≡ None
+    left_out = sym h ∙ k
 
     pub implied_none : not mark ≡ true → false ≡ is_redundant lent x
     unfolding is_some_text map_via_pair
-    implied_none l = sym (implied_by none left_out ∙ rw (not_true mark l) refl)
+    implied_none l = sym (implied_by None left_out ∙ rw (not_true mark l) refl)
 
     pub implied_mark : not mark ≡ false → (r : Bool) → r ≡ equal s t → r ≡ is_redundant lent x
     unfolding is_some_text map_via_pair
-    implied_mark l r m = m ∙ sym (implied_by none left_out ∙ rw (not_false mark l) refl)
+    implied_mark l r m = m ∙ sym (implied_by None left_out ∙ rw (not_false mark l) refl)
 
 -- Lemmas for `keep_pair`.
 module _ (store : Text) (places : List ℕ) (i key e : ℕ) (implies : Map → Pair → Bool) (mark : Bool) (kept : List ℕ) (w : ℕ) where
@@ -197,10 +182,6 @@ module _ (store : Text) (places : List ℕ) (i key e : ℕ) (implies : Map → P
 
       pub pair_kept : c ≡ false → (kept' : List ℕ) → kept' ≡ copy_entry places i w kept → Leaves (w + 1) kept'
       pair_kept n kept' p = rw (keeps_unless, n) (refl, p)
-
--- Lemmas for `is_marked`.
-pub marked_so : (mark any r : Bool) → mark ≡ false → r ≡ any → r ≡ (mark || any)
-marked_so mark any r h e = rw h e
 
 -- For at most 64 pairs that the slice holds, the selected pairs are those of the map, for any canonical form.
 pub pairs_made : (form : Bool → List Pair → List Pair) (store : Text) (places : List ℕ) (n : ℕ) (l : List Pair) (mark : Bool) → n ≤ 64 → n ≤ length places / 4 → (marked : Bool) → marked ≡ (mark || any_root_pair l)

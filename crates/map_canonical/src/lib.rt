@@ -2,7 +2,7 @@
 // Ports canonicalize and map_via of the Rust pcp/mapping.rs.
 #![tactic(auto)]
 
-ghost use Rattle.std.specs.Prelude.{◌≡◌, cond, ◌||◌, List, length, ℕ, max as larger, ◌+◌, ◌*◌, ◌≤◌};
+ghost use Rattle.std.specs.Prelude.{◌≡◌, cond, ◌||◌, List, length, ℕ, ◌+◌, ◌*◌, ◌≤◌};
 ghost use Rattle.pair_list.specs.Places.{pair_in, pairs_in};
 ghost use Rattle.pair_list_write.specs.Lists.{copy_entry};
 ghost use Rattle.pair_list_write.specs.Select.{written_entries, HoldsEntries};
@@ -12,25 +12,23 @@ ghost use Rattle.map_spec.specs.New.{is_root_pair, any_root_pair, is_redundant};
 ghost use Rattle.map_canonical.specs.Canonical.{max_elements, non_root_with_elements, kept_indices, canonical_indices, canonical_selection, HoldsElementCounts, keeps_pair};
 
 // Returns whether pair `i` is `/`→`/`.
+#[tactic(auto, using(pair_list_write::proofs::WriteBranches::source_key, pair_list_write::proofs::WriteBranches::target_key))]
 fn is_root_pair(store: &[u8], places: &[usize], i: usize) -> bool
     ensures { result ≡ is_root_pair (pair_in store.now places.now i) }
 {
-    if !path_grammar::is_root(pair_list::key_at(store, places, i, false)) {
-        return false;
-    }
-    path_grammar::is_root(pair_list::key_at(store, places, i, true))
+    path_grammar::is_root(pair_list::key_at(store, places, i, false))
+        && path_grammar::is_root(pair_list::key_at(store, places, i, true))
 }
 
 // Returns whether one of the first n pairs is `/`→`/`.
+#[tactic(auto, using(crate::proofs::KeepBranches::rooting))]
 fn any_root_pair(store: &[u8], places: &[usize], n: usize) -> bool
     ensures { result ≡ any_root_pair (pairs_in store.now places.now n) }
 {
-    let mut i = 0;
-    while i < n {
+    for i in 0..n {
         if is_root_pair(store, places, i) {
             return true;
         }
-        i += 1;
     }
     false
 }
@@ -39,17 +37,7 @@ fn any_root_pair(store: &[u8], places: &[usize], n: usize) -> bool
 pub fn is_marked(mark: bool, store: &[u8], places: &[usize], n: usize) -> bool
     ensures { result ≡ (mark || any_root_pair (pairs_in store.now places.now n)) }
 {
-    if mark {
-        return true;
-    }
-    any_root_pair(store, places, n)
-}
-
-// The larger of two numbers of elements.
-fn max(a: path_prefix::Elements, b: path_prefix::Elements) -> path_prefix::Elements
-    ensures { result.0 ≡ larger a.0 b.0 }
-{
-    if a.0 < b.0 { b } else { a }
+    mark || any_root_pair(store, places, n)
 }
 
 // Writes the number of elements of each of the first n sources to `keys`, and returns the maximum.
@@ -64,12 +52,10 @@ fn fill_element_counts(
     ensures result_value { result.0 ≡ max_elements store.now places.now n }
 {
     let mut top = path_prefix::Elements(0);
-    let mut i = 0;
-    while i < n {
+    for i in 0..n {
         let e = path_prefix::element_count(pair_list::key_at(store, places, i, false));
         keys[i] = e.0;
-        top = max(top, e);
-        i += 1;
+        top = path_prefix::Elements(top.0.max(e.0));
     }
     top
 }
@@ -80,17 +66,13 @@ fn is_redundant(store: &[u8], kept: &[usize], n: usize, mark: bool, s: &[u8], t:
     ensures { result ≡ is_redundant (lent_map store.now kept.now n mark)
         (record { source = s.now; target = t.now }) }
 {
-    let f = map_lookup::best_prefix(store, kept, n, false, s);
-    if f.found {
-        let old = pair_list::key_at(store, kept, f.at, false);
-        let new = pair_list::key_at(store, kept, f.at, true);
+    if let Some(i) = map_lookup::best_prefix(store, kept, n, false, s) {
+        let old = pair_list::key_at(store, kept, i, false);
+        let new = pair_list::key_at(store, kept, i, true);
         let k = old.len();
         return path_join::is_join(old, new, &s[k..], t);
     }
-    if !mark {
-        return false;
-    }
-    text::is_equal(s, t)
+    mark && text::is_equal(s, t)
 }
 
 // Appends pair `i`, whose source has `key` elements, to the `w` kept pairs if `key` is `e`, the pair is
@@ -148,11 +130,9 @@ fn keep_level(
         (non_root_with_elements store.now places.now e.0 n)) old kept.new result }
 {
     let mut k = w;
-    let mut i = 0;
-    while i < n {
+    for i in 0..n {
         let key = path_prefix::Elements(keys[i]);
         k = keep_pair(store, places, i, key, e, mark, kept, k);
-        i += 1;
     }
     k
 }
@@ -170,10 +150,9 @@ fn canonicalize(store: &[u8], places: &[usize], n: usize, mark: bool, kept: &mut
     let mut keys = [0usize; 64];
     let top = fill_element_counts(store, places, n, &mut keys);
     let mut w = 0;
-    let mut e = path_prefix::Elements(0);
-    while e.0 < top.0 {
-        w = keep_level(store, places, n, &keys, e, mark, kept, w);
-        e = path_prefix::Elements(e.0 + 1);
+    for e in 0..top.0 {
+        let level = path_prefix::Elements(e);
+        w = keep_level(store, places, n, &keys, level, mark, kept, w);
     }
     keep_level(store, places, n, &keys, top, mark, kept, w)
 }

@@ -1,4 +1,5 @@
 -- Lemmas about the branches of the calls.
+use Rattle.std.specs.Prelude.{Result, Ok, Err, ⊤}
 use mathlib.Core.Path.{◌≡◌, refl, sym, ◌∙◌}
 use mathlib.Core.Bool.{Bool, true, false, cond, ◌&&◌}
 use mathlib.Core.List.{List, [], ◌∷◌}
@@ -7,14 +8,11 @@ use native.Mathlib.Omega.{arith}
 use lib.Dec.{eqb}
 use lib.ListN.{length}
 use Rattle.text.specs.Text.{Text}
-use Rattle.text.proofs.BoolLaws.{told}
 use Rattle.layer_offset.specs.declared.LayerOffset.{LayerOffset}
 use Rattle.layer_offset.specs.Offset.{identity_offset, is_identity, concatenate_offsets}
 use Rattle.pair_list.specs.Pair.{all_ends}
 use Rattle.pair_list.specs.Places.{pairs_in}
 use Rattle.refusal.specs.declared.Refusal.{Refusal}
-use Rattle.refusal.specs.declared.Validation.{Validation}
-use Rattle.refusal.specs.declared.Validation.TheVariants.{Passed, Refused as RefusedValidation}
 use Rattle.validate.specs.Validate.{lent_list, validate_call, ValidList}
 use Rattle.validate.proofs.PassedLaws.{first_sound, second_sound}
 use Rattle.map_spec.specs.Map.{Map}
@@ -34,14 +32,14 @@ use Rattle.map_compose.specs.Calls.{composed_time, composed_time_of, compose_lis
 use Rattle.map_compose.proofs.ComposedEnds.{composed_ends, ends_legal}
 
 -- `composed_time`
-module _ (outer inner : LayerOffset) (b c d : Bool) (h : b ≡ is_identity outer) (g : c ≡ is_identity inner) (e : d ≡ (b && c)) where
-  pub time_identity : d ≡ true → identity_offset ≡ composed_time outer inner
+module _ (outer inner : LayerOffset) where
+  pub time_identity : (is_identity outer && is_identity inner) ≡ true → identity_offset ≡ composed_time outer inner
   unfolding composed_time
-  time_identity k = rw (← h, ← g, told e k)
+  time_identity k = rw k
 
-  pub time_other : d ≡ false → (r : LayerOffset) → r ≡ concatenate_offsets outer inner → r ≡ composed_time outer inner
+  pub time_other : (is_identity outer && is_identity inner) ≡ false → (r : LayerOffset) → r ≡ concatenate_offsets outer inner → r ≡ composed_time outer inner
   unfolding composed_time
-  time_other k r f = rw (← h, ← g, told e k) f
+  time_other k r f = rw k f
 
 -- Two maps, neither the identity: the map is built from the composed list, with the composed mark.
 pub composed_made : (outer inner : Map) (time : LayerOffset) (out : Text) (slots : List ℕ)
@@ -76,18 +74,18 @@ built_map outer inner eo ei time out slots n at bytes own c mark e =
 
 -- `compose`
 module _ (store : Text) (places : List ℕ) (outer : MapFunction) (istore : Text) (iplaces : List ℕ) (inner : MapFunction) (out : Text) (slots : List ℕ)
-    (q : Validation) (h : q ≡ validate_call (list_of store places outer ∷ list_of istore iplaces inner ∷ []) [] []) where
+    (q : Result ⊤ Refusal) (h : q ≡ validate_call (list_of store places outer ∷ list_of istore iplaces inner ∷ []) [] []) where
   abbrev o : Map
   o = map_of store places outer
 
   abbrev i : Map
   i = map_of istore iplaces inner
 
-  pub call_refused : (x : Refusal) → q ≡ RefusedValidation x → compose_call store places outer istore iplaces inner out slots ≡ refused x
+  pub call_refused : (x : Refusal) → q ≡ Err x → compose_call store places outer istore iplaces inner out slots ≡ refused x
   unfolding compose_call
   call_refused x k = rw (← h, k)
 
-  module _ (k : q ≡ Passed) where
+  module _ (k : q ≡ Ok tt) where
     pub outer_sound : ValidList (list_of store places outer)
     outer_sound = first_sound (list_of store places outer) (list_of istore iplaces inner ∷ []) [] [] (sym h ∙ k)
 

@@ -1,8 +1,8 @@
 -- Lemmas about composed ends: composing prim paths, `/` and empty ends yields only such ends, so nothing illegal is made.
+use Rattle.std.specs.Prelude.{Option, Some, None}
 use mathlib.Core.Path.{◌≡◌, refl, sym, ap, ◌∙◌}
 use mathlib.Core.Bool.{Bool, true, false, not, cond, ◌&&◌, ◌||◌}
 use mathlib.Core.List.{List, [], ◌∷◌, ◌++◌}
-use mathlib.Core.Option.{Option, none, some}
 use Prim.Native.Nat.{ℕ}
 use lib.ListN.{length, drop}
 use Rattle.text.specs.Text.{Text, is_nil, lacks_byte}
@@ -40,41 +40,41 @@ join_end s t r ep es ns et f =
     = join_legal s t r (end_legal (s ++ r) ep) es ns et f ∙ ap not (ap (λ (b : Bool). (is_nil t || is_root t) && b) (no_suffix r e g) ∙ and_no (is_nil t || is_root t)) in
     rw (end_scan (join s t r), l, join_lacks 123 refl s t r (end_lacks t et), e, join_lacks 46 refl s t r (end_undotted t et), g)
 
-replaced_end : (p s t q : Text) → is_end p ≡ true → is_end s ≡ true → is_nil s ≡ false → is_end t ≡ true → has_prefix p s ≡ true → replace_prefix p s t ≡ some q
+replaced_end : (p s t q : Text) → is_end p ≡ true → is_end s ≡ true → is_nil s ≡ false → is_end t ≡ true → has_prefix p s ≡ true → replace_prefix p s t ≡ Some q
     → is_end q ≡ true
 replaced_end p s t q ep es ns et h e =
     let w = prefix_rest p s h in
-    let z : q ≡ join s t (drop (length s) p) = let y : some q ≡ some (join s t (drop (length s) p)) = sym e ∙ replace_prefix_lem p s t h in cc in
+    let z : q ≡ join s t (drop (length s) p) = let y : Some q ≡ Some (join s t (drop (length s) p)) = sym e ∙ replace_prefix_lem p s t h in cc in
     rw z (join_end s t (drop (length s) p) (rw w.0 at ep) es ns et w.1)
 
-served : (p : Text) (key : ℕ → Text) (n i : ℕ) → longest_match p key n ≡ some i → (not (is_nil (key i)) && has_prefix p (key i)) ≡ true
+served : (p : Text) (key : ℕ → Text) (n i : ℕ) → longest_match p key n ≡ Some i → (not (is_nil (key i)) && has_prefix p (key i)) ≡ true
 unfolding longest_match matches
 served p key n i e = (chosen_best (matches p) key n i e).does_pass
 
 -- Plain mapping of an end through pairs of ends yields an end.
 by_end : (m : Map) (a b : ℕ → Text) (p q : Text) (n : ℕ) (o : Option ℕ) → longest_match p a n ≡ o → ((i : ℕ) → is_end (a i) ≡ true) → ((i : ℕ) → is_end (b i) ≡ true)
-    → is_end p ≡ true → map_by m a b p o ≡ some q → is_end q ≡ true
-by_end m a b p q n none c ea eb ep e = go m.mark e
+    → is_end p ≡ true → map_by m a b p o ≡ Some q → is_end q ≡ true
+by_end m a b p q n None c ea eb ep e = go m.mark e
   where
-    go : (t : Bool) → cond t (some p) none ≡ some q → is_end q ≡ true
+    go : (t : Bool) → cond t (Some p) None ≡ Some q → is_end q ≡ true
     go true e = let z : p ≡ q = cc in rw z at ep
     go false e = absurd (no_text e)
-by_end m a b p q n (some i) c ea eb ep e = go (is_nil (map_target m i)) e
+by_end m a b p q n (Some i) c ea eb ep e = go (is_nil (map_target m i)) e
   where
     passes : (not (is_nil (a i)) && has_prefix p (a i)) ≡ true
     passes = served p a n i c
 
-    go : (t : Bool) → cond t none (replace_prefix p (a i) (b i)) ≡ some q → is_end q ≡ true
+    go : (t : Bool) → cond t None (replace_prefix p (a i) (b i)) ≡ Some q → is_end q ≡ true
     go true e = absurd (no_text e)
     go false e =
         replaced_end p (a i) (b i) q ep (ea i) (not_true (is_nil (a i)) (and_l (not (is_nil (a i))) (has_prefix p (a i)) passes)) (eb i)
         (and_r (not (is_nil (a i))) (has_prefix p (a i)) passes) e
 
-out_end : (m : Map) → all_ends m.pairs ≡ true → (p q : Text) → is_end p ≡ true → map_source_to_target m p ≡ some q → is_end q ≡ true
+out_end : (m : Map) → all_ends m.pairs ≡ true → (p q : Text) → is_end p ≡ true → map_source_to_target m p ≡ Some q → is_end q ≡ true
 unfolding map_source_to_target match_source
 out_end m em p q ep e = by_end m (map_source m) (map_target m) p q (map_size m) (match_source m p) refl (ends_source m.pairs em) (ends_target m.pairs em) ep e
 
-home_end : (m : Map) → all_ends m.pairs ≡ true → (p q : Text) → is_end p ≡ true → map_target_to_source m p ≡ some q → is_end q ≡ true
+home_end : (m : Map) → all_ends m.pairs ≡ true → (p q : Text) → is_end p ≡ true → map_target_to_source m p ≡ Some q → is_end q ≡ true
 unfolding map_target_to_source match_target
 home_end m em p q ep e = by_end m (map_target m) (map_source m) p q (map_size m) (match_target m p) refl (ends_target m.pairs em) (ends_source m.pairs em) ep e
 

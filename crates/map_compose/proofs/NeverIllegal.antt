@@ -1,4 +1,5 @@
 -- The proof that no `compose` call is refused because a path that it made is illegal (question 8).
+use Rattle.std.specs.Prelude.{Result, Ok, Err, ⊤}
 use mathlib.Core.Path.{◌≡◌, refl, ap}
 use mathlib.Core.Bool.{Bool, true, false, cond, ◌&&◌}
 use mathlib.Core.List.{List, [], ◌∷◌}
@@ -13,8 +14,6 @@ use Rattle.pair_list.specs.Pair.{Pair, every_end, all_short, all_ends}
 use Rattle.pair_list_write.specs.Lists.{list_fits_buffers}
 use Rattle.refusal.specs.Refusal.{refused_or}
 use Rattle.refusal.specs.declared.Refusal.TheVariants.{TooMany, NoRoom, MadeTooLong, MadeIllegal}
-use Rattle.refusal.specs.declared.Validation.{Validation}
-use Rattle.refusal.specs.declared.Validation.TheVariants.{Passed, Refused as RefusedValidation}
 use Rattle.validate.specs.Validate.{LentList, list_short, list_all, count_within_limit, every, first_failed, validate_call}
 use Rattle.validate.proofs.PassedLaws.{first_sound, second_sound}
 use Rattle.map_spec.specs.Map.{Map}
@@ -26,6 +25,7 @@ use Rattle.pair_buffer.specs.Ends.{require_short, require_legal, from_ends_given
 use Rattle.map_compose.specs.Calls.{composed_time_of, compose_lists, compose_outcome, compose_call, ComposeNeverIllegal}
 use Rattle.map_compose.proofs.ComposedEnds.{composed_ends, ends_legal}
 use Rattle.map_compose.proofs.CallBranches.{composed_made}
+use Rattle.refusal.specs.declared.Refusal.{Refusal}
 
 -- An outcome other than refusal 8.
 abbrev pub Never : MapOutcome → Type 0
@@ -74,7 +74,7 @@ never_ends l mark time out slots e =
     (never_room l out slots (require_short l (require_legal l (map (from_parts l mark) time))) (never_made l (from_parts l mark) time (ends_legal l e)))
 
 -- Questions 1 to 4, as they check the lists of a call.
-no_eight : (a b c d : Bool) → first_failed a b c d ≡ RefusedValidation MadeIllegal → ⊥
+no_eight : (a b c d : Bool) → first_failed a b c d ≡ Err MadeIllegal → ⊥
 unfolding first_failed
 no_eight true true true true e = let z : ◌≡◌ {A = ℕ} 0 1 = cc in omega arith
 no_eight true true true false e = let z : ◌≡◌ {A = ℕ} 0 1 = cc in omega arith
@@ -82,21 +82,21 @@ no_eight true true false d e = let z : ◌≡◌ {A = ℕ} 0 1 = cc in omega ari
 no_eight true false c d e = let z : ◌≡◌ {A = ℕ} 0 1 = cc in omega arith
 no_eight false b c d e = let z : ◌≡◌ {A = ℕ} 0 1 = cc in omega arith
 
-never_validated : (lists : List LentList) (texts ends : List Text) → validate_call lists texts ends ≡ RefusedValidation MadeIllegal → ⊥
+never_validated : (lists : List LentList) (texts ends : List Text) → validate_call lists texts ends ≡ Err MadeIllegal → ⊥
 unfolding validate_call
 never_validated lists texts ends =
     no_eight (every at_most255 texts && every list_short lists) (every legal texts && every (list_all legal) lists) (every is_end ends && every (list_all is_end) lists) (every count_within_limit lists)
 
 -- The outcome of a call whose lists passed.
-pub never_unless : (lists : List LentList) (o : MapOutcome) → (validate_call lists [] [] ≡ Passed → Never o) → Never (refused_or (validate_call lists [] []) refused o)
+pub never_unless : (lists : List LentList) (o : MapOutcome) → (validate_call lists [] [] ≡ Ok tt → Never o) → Never (refused_or (validate_call lists [] []) refused o)
 never_unless lists o f = go (validate_call lists [] []) (never_validated lists [] []) f
   where
-    go : (q : Validation) → (q ≡ RefusedValidation MadeIllegal → ⊥) → (q ≡ Passed → Never o) → Never (refused_or q refused o)
-    go Passed n f e = f refl e
-    go (RefusedValidation x) n f e =
+    go : (q : Result ⊤ Refusal) → (q ≡ Err MadeIllegal → ⊥) → (q ≡ Ok tt → Never o) → Never (refused_or q refused o)
+    go (Ok tt) n f e = f refl e
+    go (Err x) n f e =
         let w : refused x ≡ refused MadeIllegal = e in
         let z : x ≡ MadeIllegal = cc in
-        n (ap RefusedValidation z)
+        n (ap Err z)
 
 module _ (outer inner : Map) (time : LayerOffset) (out : Text) (slots : List ℕ) (eo : all_ends outer.pairs ≡ true) (ei : all_ends inner.pairs ≡ true) where
   never_composed : Never (compose_lists outer inner time out slots)

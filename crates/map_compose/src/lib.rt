@@ -8,6 +8,8 @@ ghost use Rattle.map_function.specs.MapOutcome.{ReturnsMap};
 ghost use Rattle.pair_list_write.specs.Packed.{ScratchRoom};
 ghost use Rattle.map_compose.specs.Calls.{composed_time, compose_lists, compose_call};
 
+use refusal::Refusal;
+
 // The time offset of the composed map.
 pub fn composed_time(
     outer: layer_offset::LayerOffset,
@@ -15,7 +17,7 @@ pub fn composed_time(
 ) -> layer_offset::LayerOffset
     ensures { result ≡ composed_time outer inner }
 {
-    if validate::both(outer.is_identity(), inner.is_identity()) {
+    if outer.is_identity() && inner.is_identity() {
         return layer_offset::LayerOffset::IDENTITY;
     }
     outer.concatenate(inner)
@@ -35,7 +37,7 @@ fn compose_in(
     own: &mut [usize],
     out: &mut [u8],
     slots: &mut [usize],
-) -> map_function::MapReply
+) -> Result<map_function::MapFunction, Refusal>
     requires valid_list { ValidList (list_of store.now places.now outer) }
     requires valid_list_2 { ValidList (list_of istore.now iplaces.now inner) }
     requires scratch_room { ScratchRoom 1534 (inner.count + outer.count) bytes.old own.old }
@@ -57,7 +59,7 @@ fn compose_in(
         bytes,
         own,
     );
-    let both = validate::both(mark, imark);
+    let both = mark && imark;
     pair_buffer::from_ends_given(bytes, own, b.n, true, both, time, out, slots)
 }
 
@@ -73,7 +75,7 @@ fn compose_lists(
     time: layer_offset::LayerOffset,
     out: &mut [u8],
     slots: &mut [usize],
-) -> map_function::MapReply
+) -> Result<map_function::MapFunction, Refusal>
     requires valid_list { ValidList (list_of store.now places.now outer) }
     requires valid_list_2 { ValidList (list_of istore.now iplaces.now inner) }
     ensures { ReturnsMap (compose_lists (map_of store.now places.now outer)
@@ -104,7 +106,7 @@ pub fn compose(
     inner: map_function::MapFunction,
     out: &mut [u8],
     slots: &mut [usize],
-) -> map_function::MapReply
+) -> Result<map_function::MapFunction, Refusal>
     ensures { ReturnsMap (compose_call store.now places.now outer istore.now
         iplaces.now inner out.old slots.old) result out.old out.new
         slots.old slots.new }
@@ -113,15 +115,12 @@ pub fn compose(
     let mark = outer.has_root_identity;
     let k = inner.count;
     let imark = inner.has_root_identity;
-    let q = validate::validate_lists(store, places, n, istore, iplaces, k);
-    if let refusal::Validation::Refused(x) = q {
-        return map_function::MapReply::Refused(x);
-    }
+    validate::validate_lists(store, places, n, istore, iplaces, k)?;
     let time = composed_time(outer.time_offset, inner.time_offset);
-    if validate::both(n == 0, mark) {
+    if n == 0 && mark {
         return map_function::without_dropping(istore, iplaces, k, imark, time, out, slots);
     }
-    if validate::both(k == 0, imark) {
+    if k == 0 && imark {
         return map_function::without_dropping(store, places, n, mark, time, out, slots);
     }
     compose_lists(

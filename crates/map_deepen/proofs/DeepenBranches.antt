@@ -1,36 +1,32 @@
 -- Lemmas about the branches of the functions of `deepen_to`.
+use Rattle.std.specs.Prelude.{Result, Ok, Err, Option, Some, None, ⊤}
+use Rattle.std.specs.Option.{unwrap_or}
 use mathlib.Core.Path.{◌≡◌, refl, sym, ap, ◌∙◌}
 use mathlib.Core.Bool.{Bool, true, false, not, cond}
 use mathlib.Core.List.{List, [], ◌∷◌}
-use mathlib.Core.Option.{Option, none, some, get_or}
 use Prim.Native.Nat.{ℕ, ◌+◌, ◌≤◌, ◌<◌}
 use native.Mathlib.Omega.{arith}
 use lib.ListN.{length, take}
 use borrow.Author.Tests.{lt-leb}
 use Rattle.text.specs.Text.{Text, equal, written_if_fits, fit_of}
-use Rattle.text.specs.declared.Fit.{Fit}
-use Rattle.text.specs.declared.Fit.TheVariants.{Written}
 use Rattle.text.proofs.BoolLaws.{told, not_true, not_false}
 use Rattle.path_grammar.specs.Legal.{legal, at_most255, is_end}
 use Rattle.path_prefix.specs.Prefix.{has_prefix}
 use Rattle.path_join.specs.Join.{replace_prefix}
 use Rattle.path_join.proofs.ReplaceLaws.{replace_prefix_lem}
 use Rattle.path_parts.specs.Strip.{strip, strip_fit, strip_buffer}
-use Rattle.path_parts.proofs.StripLaws.{strip_shorter, strip_length, strip_back}
+use Rattle.path_parts.proofs.StripLaws.{strip_shorter, strip_length, strip_back, strip_never}
 use Rattle.layer_offset.specs.declared.LayerOffset.{LayerOffset}
 use Rattle.map_deepen.specs.declared.ClassSoFar.{ClassSoFar}
 use Rattle.pair_list.specs.Pair.{pair, all_short}
 use Rattle.pair_list.specs.Places.{key_at, pair_in, pairs_in}
-use Rattle.pair_list.specs.BestStep.{best_kept, index_kept}
+use Rattle.pair_list.specs.BestStep.{index_kept}
 use Rattle.pair_list.specs.LongestMatch.{longest_by}
-use Rattle.pair_list.proofs.BestLaws.{search_none, step_fails, step_lighter, step_heavier, step_first}
 use Rattle.pair_list.proofs.LongestMatchLaws.{IsLongest, chosen_best, best_same}
 use Rattle.pair_list.proofs.PlaceLaws.{pair_is, pairs_in_length, pairs_in_source, pairs_in_target}
 use Rattle.pair_list_write.specs.Packed.{AppendedPair}
 use Rattle.refusal.specs.declared.Refusal.{Refusal}
 use Rattle.refusal.specs.declared.Refusal.TheVariants.{TooLong}
-use Rattle.refusal.specs.declared.Validation.{Validation}
-use Rattle.refusal.specs.declared.Validation.TheVariants.{Passed, Refused as RefusedValidation}
 use Rattle.validate.specs.Validate.{LentList, every, first_failed, validate_call, ValidList}
 use Rattle.validate.proofs.PassedLaws.{first_sound, text_short}
 use Rattle.map_spec.specs.Map.{Map, map_source, map_target, map_size}
@@ -93,15 +89,13 @@ pub deepen_same : (q : Text) (k : ℕ) (made : Text) → IsMade q k made → (st
     → deepened_at store places f node i out slots ≡ deepened_map (map_of store places f) node above (take k made) f.time_offset out slots
 deepen_same q k made t store places f node i above new g h j out slots = rw (t.text, j, g, h) refl
 
--- `consider_class` and `find_class`
-pub ruleset classes = (step_fails, step_lighter, step_heavier, step_first, search_none)
-
 -- `strip_node`
-pub node_done : (p out : Text) (f : Fit) → length p ≤ length out → f ≡ strip_fit p out → (n : ℕ) → f ≡ Written n → (out' : Text) → out' ≡ strip_buffer p out
+pub node_done : (p out : Text) (f : Option ℕ) → length p ≤ length out → f ≡ strip_fit p out → (n : ℕ) → n ≡ unwrap_or f 0 → (out' : Text) → out' ≡ strip_buffer p out
     → (n ≡ length (strip p)) × ((take n out' ≡ strip p) × (n ≤ length out))
-node_done p out f h e n k out' w =
-    let z : n ≡ length (strip p) = strip_length p out f h e n k in
-    (z, (strip_back p out f h e n k out' w, omega (arith, strip_shorter p)))
+node_done p out None h e n k out' w = absurd (strip_never p out None h e refl)
+node_done p out (Some m) h e n k out' w =
+    let z : n ≡ length (strip p) = k ∙ strip_length p out (Some m) h e m refl in
+    (z, (strip_back p out (Some m) h e n (ap Some (sym k)) out' w, omega (arith, strip_shorter p)))
 
 -- The second text and the second end to validate are empty.
 validate_node : (l : LentList) (p e : Text) → validate_call (l ∷ []) (p ∷ [] ∷ []) (e ∷ [] ∷ []) ≡ validate_call (l ∷ []) (p ∷ []) (e ∷ [])
@@ -110,18 +104,18 @@ validate_node l p e = refl
 
 -- `deepen_node`
 module _ (store : Text) (places : List ℕ) (f : MapFunction) (p node : Text) (out : Text) (slots : List ℕ) (is : node ≡ strip p)
-    (q : Validation) (h : q ≡ validate_call (list_of store places f ∷ []) (p ∷ [] ∷ []) (node ∷ [] ∷ [])) where
+    (q : Result ⊤ Refusal) (h : q ≡ validate_call (list_of store places f ∷ []) (p ∷ [] ∷ []) (node ∷ [] ∷ [])) where
   abbrev m : Map
   m = map_of store places f
 
   validated_is : q ≡ validate_call (list_of store places f ∷ []) (p ∷ []) (strip p ∷ [])
   validated_is = h ∙ validate_node (list_of store places f) p node ∙ rw is refl
 
-  pub deepen_refused : (x : Refusal) → q ≡ RefusedValidation x → deepen_to_call store places f p out slots ≡ refused x
+  pub deepen_refused : (x : Refusal) → q ≡ Err x → deepen_to_call store places f p out slots ≡ refused x
   unfolding deepen_to_call
   deepen_refused x k = rw (← validated_is, k)
 
-  module _ (k : q ≡ Passed) where
+  module _ (k : q ≡ Ok tt) where
     pub sound : ValidList (list_of store places f)
     sound = first_sound (list_of store places f) [] (p ∷ []) (strip p ∷ []) (sym validated_is ∙ k)
 
@@ -144,23 +138,23 @@ module _ (store : Text) (places : List ℕ) (f : MapFunction) (p node : Text) (o
       unfolding deepen_outcome
       deepen_there l = passed ∙ rw (told g l) stands
 
-      module _ (l : b ≡ false) (c : ClassSoFar) (i : class_index c ≡ longest_by (has_prefix node) (key_at store places false) f.count) where
-        class_is : longest_by (has_prefix node) (map_source m) (map_size m) ≡ class_index c
+      module _ (l : b ≡ false) (o : Option ClassSoFar) (i : class_index o ≡ longest_by (has_prefix node) (key_at store places false) f.count) where
+        class_is : longest_by (has_prefix node) (map_source m) (map_size m) ≡ class_index o
         class_is =
             rw (pairs_in_length store places f.count)
             (best_same (has_prefix node) (map_source m) (key_at store places false) f.count (λ j n. pairs_in_source store places f.count j n) ∙ sym i)
 
-        opened : deepen_to_call store places f p out slots ≡ deepen_outcome_by m node (class_index c) f.time_offset out slots
+        opened : deepen_to_call store places f p out slots ≡ deepen_outcome_by m node (class_index o) f.time_offset out slots
         unfolding deepen_outcome
-        opened = passed ∙ rw (told g l) (ap (λ (o : Option ℕ). deepen_outcome_by m node o f.time_offset out slots) class_is)
+        opened = passed ∙ rw (told g l) (ap (λ (x : Option ℕ). deepen_outcome_by m node x f.time_offset out slots) class_is)
 
-        pub deepen_none : not c.found ≡ true → deepen_to_call store places f p out slots ≡ as_it_stands
+        pub deepen_none : o ≡ None → deepen_to_call store places f p out slots ≡ as_it_stands
         unfolding deepen_outcome_by
-        deepen_none n = opened ∙ ap (λ (x : Bool). deepen_outcome_by m node (index_kept (best_kept x c.at c.elements.0)) f.time_offset out slots) (not_true c.found n) ∙ stands
+        deepen_none n = opened ∙ ap (λ (x : Option ClassSoFar). deepen_outcome_by m node (class_index x) f.time_offset out slots) n ∙ stands
 
-        module _ (n : not c.found ≡ false) where
-          chosen_is : longest_by (has_prefix node) (key_at store places false) f.count ≡ some c.at
-          chosen_is = sym i ∙ ap (λ (x : Bool). index_kept (best_kept x c.at c.elements.0)) (not_false c.found n)
+        module _ (c : ClassSoFar) (n : o ≡ Some c) where
+          chosen_is : longest_by (has_prefix node) (key_at store places false) f.count ≡ Some c.at
+          chosen_is = sym i ∙ ap class_index n
 
           best : IsLongest (has_prefix node) (key_at store places false) f.count c.at
           best = chosen_best (has_prefix node) (key_at store places false) f.count c.at chosen_is
@@ -171,7 +165,7 @@ module _ (store : Text) (places : List ℕ) (f : MapFunction) (p node : Text) (o
           abbrev above : Text
           above = key_at store places false c.at
 
-          below_is : get_or (replace_prefix node (map_source m c.at) (map_target m c.at)) [] ≡ replaced_or_same node above (key_at store places true c.at)
+          below_is : unwrap_or (replace_prefix node (map_source m c.at) (map_target m c.at)) [] ≡ replaced_or_same node above (key_at store places true c.at)
           below_is =
               rw (
                 pairs_in_source store places f.count c.at deepen_inside,
@@ -183,7 +177,7 @@ module _ (store : Text) (places : List ℕ) (f : MapFunction) (p node : Text) (o
           unfolding deepen_outcome_by
           deepen_made =
               opened
-              ∙ ap (λ (x : Bool). deepen_outcome_by m node (index_kept (best_kept x c.at c.elements.0)) f.time_offset out slots) (not_false c.found n)
+              ∙ ap (λ (x : Option ClassSoFar). deepen_outcome_by m node (class_index x) f.time_offset out slots) n
               ∙ ap (λ (y : Text). from_ends (deepened_pairs node (map_source m c.at) y (pairs_in store places f.count)) f.has_root_identity f.time_offset out slots) below_is
               ∙ ap (λ (y : Text). from_ends (deepened_pairs node y (replaced_or_same node above (key_at store places true c.at)) (pairs_in store places f.count))
               f.has_root_identity f.time_offset out slots) (pairs_in_source store places f.count c.at deepen_inside)
@@ -196,9 +190,9 @@ deepen_long store places f p out slots h = rw (lt-leb (length p) 255 h) refl
 -- A map that the call returns is the map of the definition.
 by_class : (m n : Map) (node : Text) (o : Option ℕ) (time t : LayerOffset) (out : Text) (slots : List ℕ) → deepen_outcome_by m node o time out slots ≡ map n t → n ≡ deepen_by m node o
 unfolding deepen_outcome_by without_dropping equal replace_prefix from_parts
-by_class m n node none time t out slots e = limited_map n t m.pairs m time out slots e
-by_class m n node (some i) time t out slots e =
-    from_ends_map n t (deepened_pairs node (map_source m i) (get_or (replace_prefix node (map_source m i) (map_target m i)) []) m.pairs) m.mark time out slots e
+by_class m n node None time t out slots e = limited_map n t m.pairs m time out slots e
+by_class m n node (Some i) time t out slots e =
+    from_ends_map n t (deepened_pairs node (map_source m i) (unwrap_or (replace_prefix node (map_source m i) (map_target m i)) []) m.pairs) m.mark time out slots e
 
 pub deepens_to : DeepensTo
 unfolding deepen_outcome deepen_to without_dropping

@@ -1,6 +1,6 @@
 -- Meaning: The `deepen_to` call: validation, then the map.
-use Rattle.std.specs.Prelude.{◌≡◌, true, false, cond, List, [], ◌∷◌, map as mapped, ℕ}
-use Rattle.std.proofs.Math.Option.{Option, none, some, get_or}
+use Rattle.std.specs.Option.{unwrap_or}
+use Rattle.std.specs.Prelude.{◌≡◌, true, false, cond, List, [], ◌∷◌, map as mapped, ℕ, Option, Some, None}
 use Rattle.text.specs.Text.{Text}
 use Rattle.path_prefix.specs.Prefix.{has_prefix}
 use Rattle.path_join.specs.Join.{replace_prefix}
@@ -36,9 +36,9 @@ deepened_at store places f node i out slots =
 -- The deepened map for the class found at index i; without a class, the map unchanged.
 unfoldable pub deepen_outcome_by : Map → Text → Option ℕ → LayerOffset → Text → List ℕ → MapOutcome
 unfolding without_dropping from_ends replace_prefix
-deepen_outcome_by m node none time out slots = without_dropping m.pairs m.mark time out slots
-deepen_outcome_by m node (some i) time out slots =
-    deepened_map m node (map_source m i) (get_or (replace_prefix node (map_source m i) (map_target m i)) []) time out slots
+deepen_outcome_by m node None time out slots = without_dropping m.pairs m.mark time out slots
+deepen_outcome_by m node (Some i) time out slots =
+    deepened_map m node (map_source m i) (unwrap_or (replace_prefix node (map_source m i) (map_target m i)) []) time out slots
 
 -- The deepened map: unchanged if the node already is a source; otherwise deepened at the class, the pair whose source is a prefix of the
 -- node with most elements. An empty source counts here: "only `best_prefix` skips it".

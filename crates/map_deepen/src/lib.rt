@@ -18,6 +18,8 @@ ghost use Rattle.pair_list_write.specs.Packed.{HoldsList, AppendedPair, ScratchR
 ghost use Rattle.map_deepen.specs.FindClass.{class_kept, class_index};
 ghost use Rattle.map_deepen.specs.Calls.{deepened_pairs, deepened_map, deepened_at, deepen_to_call};
 
+use refusal::Refusal;
+
 // Appends a pair and returns the offset after it: the pair itself, or, if its source is the class's, the pair
 // `node`→`below`.
 fn deepen_pair(
@@ -67,12 +69,10 @@ fn deepen_all(
         (pairs_in store.now places.now n)) n result bytes.new slots.new }
 {
     let mut at = 0;
-    let mut i = 0;
-    while i < n {
+    for i in 0..n {
         let s = pair_list::key_at(store, places, i, false);
         let t = pair_list::key_at(store, places, i, true);
         at = deepen_pair(s, t, node, above, below, i, at, bytes, slots);
-        i += 1;
     }
     at
 }
@@ -89,7 +89,7 @@ fn deepen_in(
     own: &mut [usize],
     out: &mut [u8],
     slots: &mut [usize],
-) -> map_function::MapReply
+) -> Result<map_function::MapFunction, Refusal>
     requires valid_list { ValidList (list_of store.now places.now map) }
     requires node_len_bound { length node.now ≤ 255 }
     requires below_len_bound { length below.now ≤ 511 }
@@ -116,7 +116,7 @@ fn deepen_pairs(
     below: &[u8],
     out: &mut [u8],
     slots: &mut [usize],
-) -> map_function::MapReply
+) -> Result<map_function::MapFunction, Refusal>
     requires valid_list { ValidList (list_of store.now places.now map) }
     requires node_len_bound { length node.now ≤ 255 }
     requires below_len_bound { length below.now ≤ 511 }
@@ -147,7 +147,7 @@ fn deepen_by(
     i: usize,
     out: &mut [u8],
     slots: &mut [usize],
-) -> map_function::MapReply
+) -> Result<map_function::MapFunction, Refusal>
     requires valid_list { ValidList (list_of store.now places.now map) }
     requires node_len_bound { length node.now ≤ 255 }
     requires i_lt_count { i < map.count }
@@ -162,50 +162,38 @@ fn deepen_by(
     deepen_pairs(store, places, map, node, above, &made[..k], out, slots)
 }
 
-// The result of the search for a class: the index of the pair and the number of elements of its source.
+// The class so far: the index of the pair and the number of elements of its source.
 #[derive(Clone, Copy)]
 struct ClassSoFar {
-    found: bool,
     at: usize,
     elements: path_prefix::Elements,
 }
 
 // The search result after the source at i: that source if it is a prefix of the node with at least as many
 // elements as the one found so far. An empty source is a prefix like any other.
-fn consider_class(f: ClassSoFar, node: &[u8], source: &[u8], i: usize) -> ClassSoFar
+#[tactic(auto, unfolding(pair_list::specs::BestStep::consider_index))]
+fn consider_class(f: Option<ClassSoFar>, node: &[u8], source: &[u8], i: usize) -> Option<ClassSoFar>
     ensures { class_kept result ≡ consider_index (class_kept f) (has_prefix node.now source.now) i
         (element_count source.now) }
 {
     if !path_prefix::has_prefix(node, source) {
         return f;
     }
-    let n = path_prefix::element_count(source);
-    if f.found {
-        if n.0 < f.elements.0 {
-            return f;
-        }
+    let elements = path_prefix::element_count(source);
+    if f.is_some_and(|best| elements.0 < best.elements.0) {
+        return f;
     }
-    ClassSoFar {
-        found: true,
-        at: i,
-        elements: n,
-    }
+    Some(ClassSoFar { at: i, elements })
 }
 
 // The class: the pair whose source is a prefix of the node with most elements, the later on a tie.
-fn find_class(store: &[u8], places: &[usize], n: usize, node: &[u8]) -> ClassSoFar
+fn find_class(store: &[u8], places: &[usize], n: usize, node: &[u8]) -> Option<ClassSoFar>
     ensures { class_index result ≡ longest_by (has_prefix node.now)
         (key_at store.now places.now false) n }
 {
-    let mut f = ClassSoFar {
-        found: false,
-        at: 0,
-        elements: path_prefix::Elements(0),
-    };
-    let mut i = 0;
-    while i < n {
+    let mut f = None;
+    for i in 0..n {
         f = consider_class(f, node, pair_list::key_at(store, places, i, false), i);
-        i += 1;
     }
     f
 }
@@ -219,7 +207,7 @@ fn deepen_node(
     node: &[u8],
     out: &mut [u8],
     slots: &mut [usize],
-) -> map_function::MapReply
+) -> Result<map_function::MapFunction, Refusal>
     requires { node.now ≡ strip path.now }
     ensures { ReturnsMap (deepen_to_call store.now places.now map path.now
         out.old slots.old) result out.old out.new slots.old
@@ -228,17 +216,13 @@ fn deepen_node(
     let n = map.count;
     let mark = map.has_root_identity;
     let none = &path[..0];
-    let q = validate::validate_call(store, places, n, path, none, node, none);
-    if let refusal::Validation::Refused(x) = q {
-        return map_function::MapReply::Refused(x);
-    }
+    validate::validate_call(store, places, n, path, none, node, none)?;
     if pair_buffer::has_source(store, places, n, node) {
         return map_function::without_dropping(store, places, n, mark, map.time_offset, out, slots);
     }
-    let f = find_class(store, places, n, node);
-    if !f.found {
+    let Some(f) = find_class(store, places, n, node) else {
         return map_function::without_dropping(store, places, n, mark, map.time_offset, out, slots);
-    }
+    };
     deepen_by(store, places, map, node, f.at, out, slots)
 }
 
@@ -249,11 +233,7 @@ fn strip_node(path: &[u8], out: &mut [u8]) -> usize
     ensures out_after { take result out.new ≡ strip path.now }
     ensures upper_bound { result ≤ length out.old }
 {
-    let fit = path_parts::strip_into(path, out);
-    match fit {
-        text::Fit::Written(n) => n,
-        text::Fit::Over => 0,
-    }
+    path_parts::strip_into(path, out).unwrap_or(0)
 }
 
 // Returns the map with its class deepened to the path without its selections.
@@ -264,13 +244,13 @@ pub fn deepen_to(
     path: &[u8],
     out: &mut [u8],
     slots: &mut [usize],
-) -> map_function::MapReply
+) -> Result<map_function::MapFunction, Refusal>
     ensures { ReturnsMap (deepen_to_call store.now places.now map path.now
         out.old slots.old) result out.old out.new slots.old
         slots.new }
 {
     if 255 < path.len() {
-        return map_function::MapReply::Refused(refusal::Refusal::TooLong);
+        return Err(Refusal::TooLong);
     }
     let mut plain = [0u8; 255];
     let k = strip_node(path, &mut plain);

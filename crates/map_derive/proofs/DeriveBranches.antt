@@ -1,26 +1,23 @@
 -- Lemmas for the branches of the calls that build a map from one map.
 use mathlib.Core.Path.{◌≡◌, refl}
-use mathlib.Core.Bool.{Bool, true, false, not, cond, ◌&&◌}
+use mathlib.Core.Bool.{Bool, true, false, cond}
 use mathlib.Core.List.{List, [], ◌∷◌, map as mapped}
 use Prim.Native.Nat.{ℕ}
 use lib.ListN.{length}
 use Rattle.text.specs.Text.{Text}
 use Rattle.layer_offset.specs.declared.LayerOffset.{LayerOffset}
-use Rattle.text.proofs.BoolLaws.{told, known_false, known_true}
 use Rattle.path_grammar.specs.Legal.{legal, at_most255, is_end}
 use Rattle.pair_list.specs.Pair.{Pair}
 use Rattle.validate.specs.Validate.{LentList, pairs_of, every, validate_call}
 use Rattle.map_spec.specs.New.{from_parts}
 use Rattle.map_spec.specs.Derive.{without_source, dropping_source, swapped_pair, inverse, with_root_identity}
 use Rattle.map_spec.specs.Compose.{has_source}
-use Rattle.map_function.specs.MapFunction.{is_null, list_of, map_of}
-use Rattle.path.specs.declared.Test.TheVariants.{Holds, Refused as RefusedTest}
-use Rattle.refusal.specs.Refusal.{refused_or}
+use Rattle.map_function.specs.MapFunction.{list_of, map_of}
 use Rattle.map_function.specs.MapOutcome.{MapOutcome, within_limits, without_dropping}
-use Rattle.layer_offset.specs.Offset.{is_identity, identity_offset}
+use Rattle.layer_offset.specs.Offset.{identity_offset}
 use Rattle.map_function.specs.declared.MapFunction.{MapFunction}
 use Rattle.map_new.specs.Calls.{make_map}
-use Rattle.map_derive.specs.Calls.{all_ends_equal, inverse_call, with_root_identity_call, dropping_source_call, is_noop_call}
+use Rattle.map_derive.specs.Calls.{inverse_call, with_root_identity_call, dropping_source_call}
 use Rattle.map_derive.proofs.ListBranches.{whole_without, without_all}
 
 -- The map with its mark set, as the code builds it.
@@ -52,18 +49,6 @@ pub end_validated : (l : LentList) (s e : Text) → e ≡ [] → validate_call (
 unfolding validate_call every at_most255 legal is_end
 end_validated l s e h = rw h refl
 
--- Lemmas for `is_noop`.
-module _ (f : MapFunction) (l : List Pair) (a : Bool) (g : a ≡ is_null f) where
-  pub noop_null : a ≡ true → false ≡ (not (is_null f) && (all_ends_equal l && is_identity f.time_offset))
-  noop_null h = rw (told g h) refl
-
-  module _ (h : a ≡ false) (b : Bool) (k : b ≡ all_ends_equal l) where
-    pub noop_pairs : not b ≡ true → false ≡ (not (is_null f) && (all_ends_equal l && is_identity f.time_offset))
-    noop_pairs m = rw (told g h, known_false k m) refl
-
-    pub noop_time : not b ≡ false → (c : Bool) → c ≡ is_identity f.time_offset → c ≡ (not (is_null f) && (all_ends_equal l && is_identity f.time_offset))
-    noop_time m c n = rw (told g h, known_true k m) n
-
 -- The calls, unfolded.
 module _ (store : Text) (places : List ℕ) (f : MapFunction) (out : Text) (slots : List ℕ) where
   pub marked_unfolded : with_root_identity_call store places f out slots
@@ -81,8 +66,3 @@ module _ (store : Text) (places : List ℕ) (f : MapFunction) (out : Text) (slot
       ≡ make_map (validate_call (list_of store places f ∷ []) (s ∷ []) (s ∷ [])) (without_source s (pairs_of (list_of store places f))) (dropping_source (map_of store places f) s) f.time_offset out slots
   unfolding dropping_source_call
   dropping_unfolded s = refl
-
-pub noop_unfolded : (store : Text) (places : List ℕ) (f : MapFunction) → is_noop_call store places f
-    ≡ refused_or (validate_call (list_of store places f ∷ []) [] []) RefusedTest (Holds (not (is_null f) && (all_ends_equal (pairs_of (list_of store places f)) && is_identity f.time_offset)))
-unfolding is_noop_call
-noop_unfolded store places f = refl

@@ -1,10 +1,8 @@
 -- Meaning: The calls that build a map from one map: validation in the order of the questions, then the result.
-use Rattle.std.specs.Prelude.{ℕ, Bool, true, not, ◌&&◌, List, [], ◌∷◌, map}
+use Rattle.std.specs.Prelude.{ℕ, Bool, true, not, ◌&&◌, List, [], ◌∷◌, map, Result, Ok, Err}
 use Rattle.text.specs.Text.{Text, equal}
 use Rattle.layer_offset.specs.Offset.{is_identity, identity_offset}
 use Rattle.pair_list.specs.Pair.{Pair}
-use Rattle.path.specs.declared.Test.{Test}
-use Rattle.path.specs.declared.Test.TheVariants.{Holds, Refused}
 use Rattle.refusal.specs.Refusal.{refused_or}
 use Rattle.validate.specs.Validate.{pairs_of, validate_call}
 use Rattle.map_spec.specs.Derive.{without_source, dropping_source, swapped_pair, inverse, with_root_identity}
@@ -12,6 +10,7 @@ use Rattle.map_function.specs.declared.MapFunction.{MapFunction}
 use Rattle.map_function.specs.MapFunction.{is_null, list_of, map_of}
 use Rattle.map_function.specs.MapOutcome.{MapOutcome, within_limits}
 use Rattle.map_new.specs.Calls.{make_map}
+use Rattle.refusal.specs.declared.Refusal.{Refusal}
 
 -- The call `inverse`. Requirements: "`inverse` always sets the time offset to (0, 1)."
 unfoldable pub inverse_call : Text → List ℕ → MapFunction → Text → List ℕ → MapOutcome
@@ -40,8 +39,8 @@ all_ends_equal [] = true
 all_ends_equal (x ∷ xs) = equal x.source x.target && all_ends_equal xs
 
 -- The call `is_noop`: the map is not null and changes neither paths nor times.
-unfoldable pub is_noop_call : Text → List ℕ → MapFunction → Test
+unfoldable pub is_noop_call : Text → List ℕ → MapFunction → Result Bool Refusal
 unfolding validate_call is_null all_ends_equal is_identity
 is_noop_call store places f =
-    refused_or (validate_call (list_of store places f ∷ []) [] []) Refused
-    (Holds (not (is_null f) && (all_ends_equal (pairs_of (list_of store places f)) && is_identity f.time_offset)))
+    refused_or (validate_call (list_of store places f ∷ []) [] []) Err
+    (Ok (not (is_null f) && (all_ends_equal (pairs_of (list_of store places f)) && is_identity f.time_offset)))

@@ -9,22 +9,22 @@ ghost use Rattle.map_function.specs.MapOutcome.{ReturnsMap};
 ghost use Rattle.map_derive.specs.SwapEnds.{swap_ends};
 ghost use Rattle.map_derive.specs.Calls.{inverse_call, with_root_identity_call, dropping_source_call, all_ends_equal, is_noop_call};
 
+use refusal::Refusal;
+
 // Builds the map with its mark set.
+#[tactic(auto, unfolding(crate::specs::Calls::with_root_identity_call, map_function::specs::MapOutcome::map_reply, map_function::specs::MapOutcome::map_bytes, map_function::specs::MapOutcome::map_slots))]
 pub fn with_root_identity(
     store: &[u8],
     places: &[usize],
     map: map_function::MapFunction,
     out: &mut [u8],
     slots: &mut [usize],
-) -> map_function::MapReply
+) -> Result<map_function::MapFunction, Refusal>
     ensures { ReturnsMap (with_root_identity_call store.now places.now map out.old
         slots.old) result out.old out.new slots.old slots.new }
 {
     let n = map.count;
-    let q = validate::validate_list(store, places, n);
-    if let refusal::Validation::Refused(x) = q {
-        return map_function::MapReply::Refused(x);
-    }
+    validate::validate_list(store, places, n)?;
     map_function::without_dropping(store, places, n, true, map.time_offset, out, slots)
 }
 
@@ -33,14 +33,10 @@ pub fn with_root_identity(
 pub fn swap_ends(places: &[usize], n: usize, other: &mut [usize])
     ensures { other.new ≡ swap_ends places.now n other.old }
 {
-    if places.len() / 4 < n {
+    if places.len() / 4 < n || other.len() / 4 < n {
         return;
     }
-    if other.len() / 4 < n {
-        return;
-    }
-    let mut i = 0;
-    while i < n {
+    for i in 0..n {
         let j = 4 * i;
         pair_list_write::write_entry(
             i,
@@ -50,27 +46,24 @@ pub fn swap_ends(places: &[usize], n: usize, other: &mut [usize])
             places[j + 1],
             other,
         );
-        i += 1;
     }
 }
 
 // Builds the map with source and target exchanged, and with the time offset (0, 1).
+#[tactic(auto, unfolding(crate::specs::Calls::inverse_call, map_function::specs::MapOutcome::map_reply, map_function::specs::MapOutcome::map_bytes, map_function::specs::MapOutcome::map_slots))]
 pub fn inverse(
     store: &[u8],
     places: &[usize],
     map: map_function::MapFunction,
     out: &mut [u8],
     slots: &mut [usize],
-) -> map_function::MapReply
+) -> Result<map_function::MapFunction, Refusal>
     ensures { ReturnsMap (inverse_call store.now places.now map out.old
         slots.old) result out.old out.new slots.old slots.new }
 {
     let n = map.count;
     let mark = map.has_root_identity;
-    let q = validate::validate_list(store, places, n);
-    if let refusal::Validation::Refused(x) = q {
-        return map_function::MapReply::Refused(x);
-    }
+    validate::validate_list(store, places, n)?;
     let mut other = [0usize; 256];
     swap_ends(places, n, &mut other);
     let time = layer_offset::LayerOffset::IDENTITY;
@@ -113,15 +106,14 @@ fn without_source(
         (pairs_in store.now places.now n) }
 {
     let mut w = 0;
-    let mut i = 0;
-    while i < n {
+    for i in 0..n {
         w = keep_other(store, places, i, source, kept, w);
-        i += 1;
     }
     w
 }
 
 // Builds the map without the pairs that have the source.
+#[tactic(auto, using(crate::proofs::DeriveBranches::end_validated), unfolding(crate::specs::Calls::dropping_source_call, map_function::specs::MapOutcome::map_reply, map_function::specs::MapOutcome::map_bytes, map_function::specs::MapOutcome::map_slots))]
 pub fn dropping_source(
     store: &[u8],
     places: &[usize],
@@ -129,7 +121,7 @@ pub fn dropping_source(
     source: &[u8],
     out: &mut [u8],
     slots: &mut [usize],
-) -> map_function::MapReply
+) -> Result<map_function::MapFunction, Refusal>
     ensures { ReturnsMap (dropping_source_call store.now places.now map source.now
         out.old slots.old) result out.old out.new slots.old
         slots.new }
@@ -138,10 +130,7 @@ pub fn dropping_source(
     let mark = map.has_root_identity;
     let time = map.time_offset;
     let e = &source[..0];
-    let q = validate::validate_call(store, places, n, source, e, source, e);
-    if let refusal::Validation::Refused(x) = q {
-        return map_function::MapReply::Refused(x);
-    }
+    validate::validate_call(store, places, n, source, e, source, e)?;
     let mut kept = [0usize; 256];
     let w = without_source(store, places, n, source, &mut kept);
     if w == n {
@@ -151,34 +140,29 @@ pub fn dropping_source(
 }
 
 // Returns whether each of the first n pairs has equal ends.
+#[tactic(auto, using(crate::proofs::ListBranches::same_none, crate::proofs::ListBranches::same_not, crate::proofs::ListBranches::same_on, crate::proofs::ListBranches::same_end))]
 fn all_ends_equal(store: &[u8], places: &[usize], n: usize) -> bool
     ensures { result ≡ all_ends_equal (pairs_in store.now places.now n) }
 {
-    let mut i = 0;
-    while i < n {
+    for i in 0..n {
         let s = pair_list::key_at(store, places, i, false);
         if !text::is_equal(s, pair_list::key_at(store, places, i, true)) {
             return false;
         }
-        i += 1;
     }
     true
 }
 
 // Returns whether the map is not null and changes neither paths nor times.
-pub fn is_noop(store: &[u8], places: &[usize], map: map_function::MapFunction) -> path::Test
+#[tactic(auto, unfolding(crate::specs::Calls::is_noop_call))]
+pub fn is_noop(
+    store: &[u8],
+    places: &[usize],
+    map: map_function::MapFunction,
+) -> Result<bool, Refusal>
     ensures { result ≡ is_noop_call store.now places.now map }
 {
     let n = map.count;
-    let q = validate::validate_list(store, places, n);
-    if let refusal::Validation::Refused(x) = q {
-        return path::Test::Refused(x);
-    }
-    if map.is_null() {
-        return path::Test::Holds(false);
-    }
-    if !all_ends_equal(store, places, n) {
-        return path::Test::Holds(false);
-    }
-    path::Test::Holds(map.time_offset.is_identity())
+    validate::validate_list(store, places, n)?;
+    Ok(!map.is_null() && all_ends_equal(store, places, n) && map.time_offset.is_identity())
 }

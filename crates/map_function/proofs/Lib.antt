@@ -1,3 +1,2 @@
 -- The lemmas of this crate. The proof of each function is in the folder of its name.
 pub mod NewBranches
-pub mod ReadBranches

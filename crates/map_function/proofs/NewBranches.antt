@@ -1,4 +1,5 @@
 -- Lemmas for the branches of `from_parts` and `without_dropping`.
+use Rattle.std.specs.Prelude.{Result, Ok, Err, Option, Some, None}
 use mathlib.Core.Path.{◌≡◌, refl, sym, ap, ◌∙◌}
 use mathlib.Core.Bool.{Bool, true, false, not, cond, ◌||◌}
 use mathlib.Core.List.{List, [], ◌∷◌}
@@ -8,8 +9,6 @@ use lib.Dec.{leb}
 use lib.ListN.{length}
 use borrow.Author.Tests.{le-leb, lt-leb, leb-true}
 use Rattle.text.specs.Text.{Text}
-use Rattle.text.specs.declared.Fit.{Fit}
-use Rattle.text.specs.declared.Fit.TheVariants.{Written, Over}
 use Rattle.text.proofs.BoolLaws.{and_no, known_false, known_true}
 use Rattle.layer_offset.specs.declared.LayerOffset.{LayerOffset}
 use Rattle.pair_list.specs.Pair.{Pair}
@@ -23,14 +22,13 @@ use Rattle.map_spec.specs.New.{without_root_pairs, any_root_pair, canonicalize, 
 use Rattle.map_spec.proofs.WeightLaws.{weight, from_parts_weight}
 use Rattle.map_spec.proofs.EndLaws.{from_parts_length}
 use Rattle.validate.specs.Select.{pairs_if_selectable}
-use Rattle.map_function.specs.declared.MapReply.TheVariants.{Made, Refused}
 use Rattle.map_function.specs.MapOutcome.{MapOutcome, map, refused, map_reply, map_bytes, map_slots, require_list_room, within_limits, count_in_slice, without_dropping, from_parts_outcome, ReturnsMap}
 use Rattle.map_canonical.proofs.KeepBranches.{pairs_made}
-use Rattle.map_function.specs.declared.MapReply.{MapReply}
+use Rattle.map_function.specs.declared.MapFunction.{MapFunction}
 
 -- The reply of a call that builds a map and the contents of the buffers, once its outcome is known.
 pub refusing_map : (o : MapOutcome) (x : Refusal) → o ≡ refused x → (out : Text) (slots : List ℕ)
-    → (Refused x ≡ map_reply o) × ((out ≡ map_bytes o out) × (slots ≡ map_slots o slots))
+    → (Err x ≡ map_reply o) × ((out ≡ map_bytes o out) × (slots ≡ map_slots o slots))
 unfolding map_reply map_bytes map_slots
 refusing_map o x e out slots = rw e (refl, (refl, refl))
 
@@ -84,28 +82,28 @@ module _ (store : Text) (places : List ℕ) (n : ℕ) (mark : Bool) (time : Laye
     unfolding count_in_slice without_dropping within_limits require_list_room
     copy_room = rw (le-leb n (length places / 4) h, pairs_in_length store places n, le-leb n 64 few) refl
 
-    module _ (f : Fit) (e : f ≡ write_list_reply list out slots) where
-      pub copy_over : (out' : Text) (slots' : List ℕ) → f ≡ Over → out' ≡ write_list_bytes list out slots → slots' ≡ write_list_slots list out slots
-          → (Refused NoRoom ≡ map_reply copy) × ((out' ≡ map_bytes copy out) × (slots' ≡ map_slots copy slots))
+    module _ (f : Option ℕ) (e : f ≡ write_list_reply list out slots) where
+      pub copy_over : (out' : Text) (slots' : List ℕ) → f ≡ None → out' ≡ write_list_bytes list out slots → slots' ≡ write_list_slots list out slots
+          → (Err NoRoom ≡ map_reply copy) × ((out' ≡ map_bytes copy out) × (slots' ≡ map_slots copy slots))
       unfolding write_list_reply write_list_bytes write_list_slots map_reply map_bytes map_slots
       copy_over out' slots' o p q = go (list_fits_buffers list out slots) refl
         where
-          go : (b : Bool) → list_fits_buffers list out slots ≡ b → (Refused NoRoom ≡ map_reply copy) × ((out' ≡ map_bytes copy out) × (slots' ≡ map_slots copy slots))
-          go true z = absurd (let y : Over ≡ Written (length list) = sym o ∙ e ∙ rw z refl in let x : ◌≡◌ {A = ℕ} 0 1 = cc in omega arith)
+          go : (b : Bool) → list_fits_buffers list out slots ≡ b → (Err NoRoom ≡ map_reply copy) × ((out' ≡ map_bytes copy out) × (slots' ≡ map_slots copy slots))
+          go true z = absurd (let y : None ≡ Some (length list) = sym o ∙ e ∙ rw z refl in let x : ◌≡◌ {A = ℕ} 0 1 = cc in omega arith)
           go false z = rw (copy_room, z) (refl, (p ∙ rw z refl, q ∙ rw z refl))
 
-      pub copy_made : (w : ℕ) (out' : Text) (slots' : List ℕ) → f ≡ Written w → out' ≡ write_list_bytes list out slots → slots' ≡ write_list_slots list out slots
-          → (Made (record { count = w; has_root_identity = mark; time_offset = time }) ≡ map_reply copy) × ((out' ≡ map_bytes copy out) × (slots' ≡ map_slots copy slots))
+      pub copy_made : (w : ℕ) (out' : Text) (slots' : List ℕ) → f ≡ Some w → out' ≡ write_list_bytes list out slots → slots' ≡ write_list_slots list out slots
+          → (Ok (record { count = w; has_root_identity = mark; time_offset = time }) ≡ map_reply copy) × ((out' ≡ map_bytes copy out) × (slots' ≡ map_slots copy slots))
       unfolding write_list_reply write_list_bytes write_list_slots map_reply map_bytes map_slots
       copy_made w out' slots' o p q = go (list_fits_buffers list out slots) refl
         where
           go : (b : Bool) → list_fits_buffers list out slots ≡ b
-              → (Made (record { count = w; has_root_identity = mark; time_offset = time }) ≡ map_reply copy) × ((out' ≡ map_bytes copy out) × (slots' ≡ map_slots copy slots))
+              → (Ok (record { count = w; has_root_identity = mark; time_offset = time }) ≡ map_reply copy) × ((out' ≡ map_bytes copy out) × (slots' ≡ map_slots copy slots))
           go true z =
-              let y : Written w ≡ Written (length list) = sym o ∙ e ∙ rw z refl in
+              let y : Some w ≡ Some (length list) = sym o ∙ e ∙ rw z refl in
               let x : w ≡ length list = cc in
               rw (copy_room, z) (rw x refl, (p ∙ rw z refl, q ∙ rw z refl))
-          go false z = absurd (let y : Written w ≡ Over = sym o ∙ e ∙ rw z refl in let x : ◌≡◌ {A = ℕ} 0 1 = cc in omega arith)
+          go false z = absurd (let y : Some w ≡ None = sym o ∙ e ∙ rw z refl in let x : ◌≡◌ {A = ℕ} 0 1 = cc in omega arith)
 
     validated_room : call ≡ cond (list_fits_buffers list out slots) (map (from_parts list mark) time) (refused NoRoom)
     unfolding count_in_slice from_parts_outcome within_limits require_list_room
@@ -149,13 +147,13 @@ module _ (store : Text) (places : List ℕ) (n : ℕ) (mark : Bool) (time : Laye
             ) refl
 
         pub parts_made : (out' : Text) (slots' : List ℕ) → out' ≡ write_list_bytes (pairs_in store kept w) out slots → slots' ≡ write_list_slots (pairs_in store kept w) out slots
-            → (Made (record { count = w; has_root_identity = marked; time_offset = time }) ≡ map_reply call) × ((out' ≡ map_bytes call out) × (slots' ≡ map_slots call slots))
+            → (Ok (record { count = w; has_root_identity = marked; time_offset = time }) ≡ map_reply call) × ((out' ≡ map_bytes call out) × (slots' ≡ map_slots call slots))
         unfolding map_reply map_bytes map_slots write_list_bytes write_list_slots
         parts_made out' slots' p q =
             let z : call ≡ map (from_parts list mark) time = validated_room ∙ rw has_room refl in
             rw z (rw (count_is, mark_is) refl, (p ∙ rw (room_still, pairs_are) refl, q ∙ rw (room_still, pairs_are) refl))
 
 -- The reply of a function that builds a map and the contents of the buffers, for an equal outcome.
-pub gives_map : (o m : MapOutcome) → o ≡ m → (r : MapReply) (out out' : Text) (slots slots' : List ℕ)
+pub gives_map : (o m : MapOutcome) → o ≡ m → (r : Result MapFunction Refusal) (out out' : Text) (slots slots' : List ℕ)
     → ReturnsMap m r out out' slots slots' → ReturnsMap o r out out' slots slots'
 gives_map o m e r out out' slots slots' w = rw e w

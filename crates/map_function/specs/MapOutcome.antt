@@ -1,5 +1,5 @@
 -- Meaning: The outcome of a call that builds a map. Its reply and the contents of the lent buffers afterwards are all derived from this one value.
-use Rattle.std.specs.Prelude.{◌≡◌, ℕ, ◌/◌, Bool, cond, List, leb, length}
+use Rattle.std.specs.Prelude.{◌≡◌, ℕ, ◌/◌, Bool, cond, List, leb, length, Result, Ok, Err}
 use Rattle.text.specs.Text.{Text, written}
 use Rattle.layer_offset.specs.declared.LayerOffset.{LayerOffset}
 use Rattle.pair_list.specs.Pair.{Pair}
@@ -11,8 +11,6 @@ use Rattle.validate.specs.Validate.{LentList}
 use Rattle.map_spec.specs.Map.{Map, map_size}
 use Rattle.map_spec.specs.New.{from_parts}
 use Rattle.map_function.specs.declared.MapFunction.{MapFunction}
-use Rattle.map_function.specs.declared.MapReply.{MapReply}
-use Rattle.map_function.specs.declared.MapReply.TheVariants.{Made, Refused}
 
 -- A map with its time offset, or the refusal.
 pub data MapOutcome : Type 0 where
@@ -24,9 +22,9 @@ abbrev pub map_function : Map → LayerOffset → MapFunction
 map_function m time = record { count = map_size m; has_root_identity = m.mark; time_offset = time }
 
 -- The reply of a call with this outcome.
-unfoldable pub map_reply : MapOutcome → MapReply
-map_reply (map m time) = Made (map_function m time)
-map_reply (refused x) = Refused x
+unfoldable pub map_reply : MapOutcome → Result MapFunction Refusal
+map_reply (map m time) = Ok (map_function m time)
+map_reply (refused x) = Err x
 
 -- The byte buffer after a call with this outcome: the bytes of the pairs consecutively over its beginning. Requirements: "A refused call
 -- writes nothing."
@@ -42,7 +40,7 @@ map_slots (map m time) slots = written (list_places 0 m.pairs) slots
 map_slots (refused x) slots = slots
 
 -- A call had this outcome: its reply r, and the contents of both lent buffers before (`out`, `slots`) and after it.
-abbrev pub ReturnsMap : MapOutcome → MapReply → Text → Text → List ℕ → List ℕ → Type 0
+abbrev pub ReturnsMap : MapOutcome → Result MapFunction Refusal → Text → Text → List ℕ → List ℕ → Type 0
 ReturnsMap o r out out' slots slots' = (r ≡ map_reply o) × ((out' ≡ map_bytes o out) × (slots' ≡ map_slots o slots))
 
 -- Question 5 for a list. Requirements: "the sum of all end lengths before dropping for a list .. and a place for each such end".

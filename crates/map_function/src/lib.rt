@@ -10,6 +10,8 @@ ghost use Rattle.layer_offset.specs.Offset.{identity_offset};
 ghost use Rattle.map_function.specs.MapFunction.{is_null, path_is_identity, is_identity_map, with_time_offset};
 ghost use Rattle.map_function.specs.MapOutcome.{map_function, ReturnsMap, count_in_slice, without_dropping, from_parts_outcome};
 
+use refusal::Refusal;
+
 // A map without its pairs.
 #[derive(Clone, Copy)]
 pub struct MapFunction {
@@ -45,33 +47,27 @@ impl MapFunction {
     }
 
     // Returns whether this is the null map.
+    #[tactic(auto, unfolding(crate::specs::MapFunction::is_null))]
     pub fn is_null(self) -> bool
         ensures { result ≡ is_null self }
     {
-        if self.count != 0 {
-            return false;
-        }
-        !self.has_root_identity
+        self.count == 0 && !self.has_root_identity
     }
 
     // Returns whether this is the identity on paths, whatever its time offset.
+    #[tactic(auto, unfolding(crate::specs::MapFunction::path_is_identity))]
     pub fn path_is_identity(self) -> bool
         ensures { result ≡ path_is_identity self }
     {
-        if self.count != 0 {
-            return false;
-        }
-        self.has_root_identity
+        self.count == 0 && self.has_root_identity
     }
 
     // Returns whether this is the identity on both paths and times.
+    #[tactic(auto, unfolding(crate::specs::MapFunction::is_identity_map))]
     pub fn is_identity(self) -> bool
         ensures { result ≡ is_identity_map self }
     {
-        if !self.path_is_identity() {
-            return false;
-        }
-        self.time_offset.is_identity()
+        self.path_is_identity() && self.time_offset.is_identity()
     }
 
     // Returns the root-identity mark.
@@ -100,13 +96,6 @@ impl MapFunction {
     }
 }
 
-// The reply of a call that builds a map.
-#[derive(Clone, Copy)]
-pub enum MapReply {
-    Made(MapFunction),
-    Refused(refusal::Refusal),
-}
-
 // Builds the map of the first n pairs in canonical form, and writes its pairs to `out` and `slots`.
 // Questions 4 and 5 apply to the list before redundant pairs are dropped. Rust: from_parts.
 pub fn from_parts(
@@ -117,28 +106,22 @@ pub fn from_parts(
     time: layer_offset::LayerOffset,
     out: &mut [u8],
     slots: &mut [usize],
-) -> MapReply
+) -> Result<MapFunction, Refusal>
     ensures { ReturnsMap (count_in_slice (lent_list store.now places.now n)
         (from_parts_outcome (pairs_in store.now places.now n) mark time out.old
         slots.old)) result out.old out.new slots.old slots.new }
 {
-    if 64 < n {
-        return MapReply::Refused(refusal::Refusal::TooMany);
+    if 64 < n || places.len() / 4 < n {
+        return Err(Refusal::TooMany);
     }
-    if places.len() / 4 < n {
-        return MapReply::Refused(refusal::Refusal::TooMany);
-    }
-    if slots.len() / 4 < n {
-        return MapReply::Refused(refusal::Refusal::NoRoom);
-    }
-    if !pair_list_write::list_fits(store, places, n, out.len()) {
-        return MapReply::Refused(refusal::Refusal::NoRoom);
+    if slots.len() / 4 < n || !pair_list_write::list_fits(store, places, n, out.len()) {
+        return Err(Refusal::NoRoom);
     }
     let marked = map_canonical::is_marked(mark, store, places, n);
     let mut kept = [0usize; 256];
     let w = map_canonical::canonical_places(store, places, n, marked, &mut kept);
     pair_list_write::write_list(store, &kept, w, out, slots);
-    MapReply::Made(MapFunction {
+    Ok(MapFunction {
         count: w,
         has_root_identity: marked,
         time_offset: time,
@@ -154,22 +137,16 @@ pub fn without_dropping(
     time: layer_offset::LayerOffset,
     out: &mut [u8],
     slots: &mut [usize],
-) -> MapReply
+) -> Result<MapFunction, Refusal>
     ensures { ReturnsMap (count_in_slice (lent_list store.now places.now n)
         (without_dropping (pairs_in store.now places.now n) mark time out.old
         slots.old)) result out.old out.new slots.old slots.new }
 {
-    if 64 < n {
-        return MapReply::Refused(refusal::Refusal::TooMany);
+    if 64 < n || places.len() / 4 < n {
+        return Err(Refusal::TooMany);
     }
-    if places.len() / 4 < n {
-        return MapReply::Refused(refusal::Refusal::TooMany);
-    }
-    let fit = pair_list_write::write_list(store, places, n, out, slots);
-    let text::Fit::Written(w) = fit else {
-        return MapReply::Refused(refusal::Refusal::NoRoom);
-    };
-    MapReply::Made(MapFunction {
+    let w = pair_list_write::write_list(store, places, n, out, slots).ok_or(Refusal::NoRoom)?;
+    Ok(MapFunction {
         count: w,
         has_root_identity: mark,
         time_offset: time,

@@ -1,4 +1,5 @@
 -- Lemmas about the branches of `implied_class`.
+use Rattle.std.specs.Prelude.{Result, Ok, Err, ⊤}
 use mathlib.Core.Path.{◌≡◌, refl, sym, ap, ◌∙◌}
 use mathlib.Core.Bool.{Bool, true, false, not, cond, ◌&&◌, ◌||◌, false≢true}
 use mathlib.Core.List.{List, [], ◌∷◌, ◌++◌, map as mapped}
@@ -8,7 +9,7 @@ use lib.Dec.{eqb, leb}
 use lib.ListN.{length, length-append}
 use borrow.Author.Tests.{le-leb, lt-leb, leb-true, leb-false}
 use Rattle.text.specs.Text.{Text}
-use Rattle.text.proofs.BoolLaws.{and_l, and_r, and_no, and_yes, known_true, known_false}
+use Rattle.text.proofs.BoolLaws.{told, and_l, and_r, and_no, and_yes, known_true, known_false}
 use Rattle.path_grammar.specs.Legal.{legal, at_most255}
 use Rattle.layer_offset.specs.declared.LayerOffset.{LayerOffset}
 use Rattle.layer_offset.specs.Offset.{identity_offset}
@@ -19,8 +20,6 @@ use Rattle.pair_list.proofs.PlaceLaws.{pairs_in_length}
 use Rattle.pair_list.proofs.ListLaws.{read_back}
 use Rattle.refusal.specs.declared.Refusal.{Refusal}
 use Rattle.refusal.specs.declared.Refusal.TheVariants.{TooMany, NoRoom, MadeTooLong, MadeIllegal}
-use Rattle.refusal.specs.declared.Validation.{Validation}
-use Rattle.refusal.specs.declared.Validation.TheVariants.{Passed, Refused as RefusedValidation}
 use Rattle.validate.specs.Validate.{lent_list, validate_call, ValidList}
 use Rattle.validate.proofs.PassedLaws.{first_sound, second_sound}
 use Rattle.map_spec.specs.Map.{Map, lent_map, map_size, map_source_to_target, match_source}
@@ -29,8 +28,6 @@ use Rattle.map_spec.specs.Compose.{composed_pair, pulled_back, is_empty, is_path
 use Rattle.map_spec.specs.Derive.{inverse, with_root_identity, implied_class}
 use Rattle.map_spec.proofs.EndLaws.{from_parts_length, from_parts_every}
 use Rattle.map_function.specs.declared.MapFunction.{MapFunction}
-use Rattle.map_function.specs.declared.MapReply.{MapReply}
-use Rattle.map_function.specs.declared.MapReply.TheVariants.{Made}
 use Rattle.map_function.specs.MapFunction.{is_identity_map, path_is_identity, list_of, map_of}
 use Rattle.map_function.specs.MapOutcome.{MapOutcome, map, refused, map_function, map_reply, map_bytes, map_slots, require_list_room, within_limits, without_dropping, from_parts_outcome, count_in_slice}
 use Rattle.pair_list_write.specs.Packed.{HoldsList}
@@ -77,7 +74,7 @@ module _ (store : Text) (places : List ℕ) (n : ℕ) (mark : Bool) (out : Text)
   unfolding from_parts_outcome finished_map
   finished_parts e = finished_limited (from_parts (pairs_in store places n) mark) ∙ rw e refl
 
-pub finish_done : (o : MapOutcome) (m : Map) → o ≡ map m identity_offset → (reply : MapReply) (r : MapFunction) (out out' : Text) (slots slots' : List ℕ)
+pub finish_done : (o : MapOutcome) (m : Map) → o ≡ map m identity_offset → (reply : Result MapFunction Refusal) (r : MapFunction) (out out' : Text) (slots slots' : List ℕ)
     → (reply ≡ map_reply o) × ((out' ≡ map_bytes o out) × (slots' ≡ map_slots o slots)) → r ≡ map_of_reply reply
     → (r ≡ map_function m identity_offset) × ((out' ≡ map_bytes (map m identity_offset) out) × (slots' ≡ map_slots (map m identity_offset) slots))
 unfolding map_reply
@@ -180,12 +177,6 @@ module _ (store : Text) (places : List ℕ) (outer : MapFunction) (istore : Text
   build_both k c = rw (from_both k) c
 
 -- `either_is_identity`
-pub identity_first : (b a c : Bool) → b ≡ a → b ≡ true → true ≡ (a || c)
-identity_first b a c h k = rw (← h, k) refl
-
-pub identity_second : (b a c d : Bool) → b ≡ a → b ≡ false → d ≡ c → d ≡ (a || c)
-identity_second b a c d h k e = rw (← h, k) e
-
 -- `finish_composed`
 pub composed_finished : (outer inner : MapFunction) (l : List Pair) (whole mark : Bool) → whole ≡ (path_is_identity outer || path_is_identity inner)
     → mark ≡ (outer.has_root_identity && inner.has_root_identity) → (r : MapFunction) (out out' : Text) (slots slots' : List ℕ)
@@ -273,13 +264,13 @@ module _ (store : Text) (places : List ℕ) (transfer : MapFunction) (mid : Text
       unfolding implied_after_class
       finish_room h = rw (known_false there h, ← c.number, le-leb k 64 few) refl
 
-      module _ (h : not b ≡ false) (s : Bool) (f : s ≡ all_short (pairs_in bytes own k)) (a : Bool) (g : a ≡ (short && s)) where
-        shorts : a ≡ (short && all_short (composed_from t m))
-        shorts = g ∙ ap (λ (x : Bool). short && x) (f ∙ ap all_short (holds_list (composed_from t m) k end bytes own c))
+      module _ (h : not b ≡ false) where
+        shorts : (short && all_short (pairs_in bytes own k)) ≡ (short && all_short (composed_from t m))
+        shorts = ap (λ (x : List Pair). short && all_short x) (holds_list (composed_from t m) k end bytes own c)
 
-        pub finish_long : not a ≡ true → all ≡ refused MadeTooLong
+        pub finish_long : (short && all_short (pairs_in bytes own k)) ≡ false → all ≡ refused MadeTooLong
         unfolding implied_after_class
-        finish_long l = rw (known_false shorts l, known_true there h, ← c.number, le-leb k 64 few) refl
+        finish_long l = rw (told shorts l, known_true there h, ← c.number, le-leb k 64 few) refl
 
         pub finish_fits : list_fits_buffers (pairs_in bytes own k) out slots ≡ true
         unfolding list_fits_buffers room_beside_transfer
@@ -294,16 +285,16 @@ module _ (store : Text) (places : List ℕ) (transfer : MapFunction) (mid : Text
               le-leb (length (composed_from t m)) (length slots / 4) (omega (arith, c.number, y)),
             ) refl
 
-        pub finish_made : not a ≡ false → (r : MapFunction) (out' : Text) (slots' : List ℕ)
+        pub finish_made : (short && all_short (pairs_in bytes own k)) ≡ true → (r : MapFunction) (out' : Text) (slots' : List ℕ)
             → (r ≡ map_function (composed_map transfer class (pairs_in bytes own k)) identity_offset)
             × ((out' ≡ map_bytes (map (composed_map transfer class (pairs_in bytes own k)) identity_offset) out) × (slots' ≡ map_slots (map (composed_map transfer class (pairs_in bytes own k)) identity_offset) slots))
-            → (Made (record { count = r.count; has_root_identity = true; time_offset = time }) ≡ map_reply all) × ((out' ≡ map_bytes all out) × (slots' ≡ map_slots all slots))
+            → (Ok (record { count = r.count; has_root_identity = true; time_offset = time }) ≡ map_reply all) × ((out' ≡ map_bytes all out) × (slots' ≡ map_slots all slots))
         unfolding implied_after_class map_reply map_bytes map_slots with_root_identity
         finish_made l r out' slots' w =
             let y : compose t m ≡ composed_map transfer class (pairs_in bytes own k)
             = composed_of store places transfer mid mids class ∙ ap (λ (x : List Pair). composed_map transfer class x) (sym (holds_list (composed_from t m) k end bytes own c)) in
             let z : all ≡ map (with_root_identity (composed_map transfer class (pairs_in bytes own k))) time
-            = rw (known_true shorts l, known_true there h, ← c.number, le-leb k 64 few, y) refl in
+            = rw (told shorts l, known_true there h, ← c.number, le-leb k 64 few, y) refl in
             rw z (rw w.0 refl, (w.1.0, w.1.1))
 
 pub time_twice : (t c a b : LayerOffset) → a ≡ composed_time c identity_offset → b ≡ composed_time t a → b ≡ composed_time t (composed_time c identity_offset)
@@ -480,15 +471,15 @@ module _ (store : Text) (places : List ℕ) (transfer : MapFunction) (cstore : T
 
 -- `implied_class`
 module _ (store : Text) (places : List ℕ) (transfer : MapFunction) (cstore : Text) (cplaces : List ℕ) (class : MapFunction) (out : Text) (slots : List ℕ)
-    (q : Validation) (h : q ≡ validate_call (list_of store places transfer ∷ list_of cstore cplaces class ∷ []) [] []) where
+    (q : Result ⊤ Refusal) (h : q ≡ validate_call (list_of store places transfer ∷ list_of cstore cplaces class ∷ []) [] []) where
   abbrev call : MapOutcome
   call = implied_class_call store places transfer cstore cplaces class out slots
 
-  pub implied_refused : (x : Refusal) → q ≡ RefusedValidation x → call ≡ refused x
+  pub implied_refused : (x : Refusal) → q ≡ Err x → call ≡ refused x
   unfolding implied_class_call
   implied_refused x k = rw (← h, k) refl
 
-  module _ (k : q ≡ Passed) where
+  module _ (k : q ≡ Ok tt) where
     pub transfer_sound : ValidList (list_of store places transfer)
     transfer_sound = first_sound (list_of store places transfer) (list_of cstore cplaces class ∷ []) [] [] (sym h ∙ k)
 

@@ -1,5 +1,5 @@
 -- Method: The intermediate values of the code for `implied_class`.
-use Rattle.std.specs.Prelude.{Bool, cond, ◌&&◌, ◌||◌, List, ℕ, ◌+◌, ◌/◌, leb, length}
+use Rattle.std.specs.Prelude.{Bool, cond, ◌&&◌, ◌||◌, List, ℕ, ◌+◌, ◌/◌, leb, length, Result, Ok, Err}
 use Rattle.text.specs.Text.{Text}
 use Rattle.layer_offset.specs.declared.LayerOffset.{LayerOffset}
 use Rattle.layer_offset.specs.Offset.{identity_offset}
@@ -11,11 +11,10 @@ use Rattle.map_spec.specs.New.{from_parts, null_map}
 use Rattle.map_spec.specs.Compose.{compose}
 use Rattle.map_spec.specs.Derive.{with_root_identity}
 use Rattle.map_function.specs.declared.MapFunction.{MapFunction}
-use Rattle.map_function.specs.declared.MapReply.{MapReply}
-use Rattle.map_function.specs.declared.MapReply.TheVariants.{Made, Refused}
 use Rattle.map_function.specs.MapFunction.{path_is_identity}
 use Rattle.map_function.specs.MapOutcome.{MapOutcome, map, refused, map_function}
 use Rattle.map_implied_class.specs.Implied.{composed_from}
+use Rattle.refusal.specs.declared.Refusal.{Refusal}
 
 -- The map of a list: unchanged if `whole` is set, otherwise after redundant pairs are dropped.
 unfoldable pub finished_map : Bool → List Pair → Bool → Map
@@ -28,9 +27,9 @@ unfolding finished_map path_is_identity
 composed_map outer inner l = finished_map (path_is_identity outer || path_is_identity inner) l (outer.has_root_identity && inner.has_root_identity)
 
 -- The map in a reply; the null map if the reply is a refusal.
-abbrev pub map_of_reply : MapReply → MapFunction
-map_of_reply (Made f) = f
-map_of_reply (Refused x) = map_function null_map identity_offset
+abbrev pub map_of_reply : Result MapFunction Refusal → MapFunction
+map_of_reply (Ok f) = f
+map_of_reply (Err x) = map_function null_map identity_offset
 
 -- Whether k more pairs of b bytes fit after the transfer's pairs.
 unfoldable pub room_beside_transfer : List Pair → ℕ → ℕ → ℕ → ℕ → Bool

@@ -17,14 +17,13 @@ ghost use Rattle.compose_pairs.specs.ComposePairs.{CanCompose};
 ghost use Rattle.map_implied_class.specs.Implied.{composed_from, implied_outcome, implied_time, implied_class_call};
 ghost use Rattle.map_implied_class.specs.Finish.{map_of_reply, finished_map, composed_map, room_beside_transfer, implied_after_class};
 
+use refusal::Refusal;
+
 // The map in a reply; the null map if the reply is a refusal.
-fn map_of_reply(reply: map_function::MapReply) -> map_function::MapFunction
+fn map_of_reply(reply: Result<map_function::MapFunction, Refusal>) -> map_function::MapFunction
     ensures { result ≡ map_of_reply reply }
 {
-    match reply {
-        map_function::MapReply::Made(f) => f,
-        map_function::MapReply::Refused(_) => map_function::MapFunction::null(),
-    }
+    reply.unwrap_or(map_function::MapFunction::null())
 }
 
 // Builds a map from the first n pairs, unchanged if `whole` is set, otherwise by dropping redundant pairs.
@@ -111,16 +110,6 @@ fn compose_list(
     )
 }
 
-// Returns whether one of the two maps is the identity on paths.
-fn either_is_identity(a: map_function::MapFunction, b: map_function::MapFunction) -> bool
-    ensures { result ≡ (path_is_identity a || path_is_identity b) }
-{
-    if a.path_is_identity() {
-        return true;
-    }
-    b.path_is_identity()
-}
-
 // Builds the composed map from the list that composing starts from.
 fn finish_composed(
     store: &[u8],
@@ -142,8 +131,8 @@ fn finish_composed(
         (map (composed_map outer inner (pairs_in store.now places.now n)) identity_offset)
         slots.old }
 {
-    let whole = either_is_identity(outer, inner);
-    let mark = validate::both(outer.has_root_identity, inner.has_root_identity);
+    let whole = outer.path_is_identity() || inner.path_is_identity();
+    let mark = outer.has_root_identity && inner.has_root_identity;
     finish_map(store, places, n, whole, mark, out, slots)
 }
 
@@ -190,7 +179,7 @@ fn finish(
     own: &mut [usize],
     out: &mut [u8],
     slots: &mut [usize],
-) -> map_function::MapReply
+) -> Result<map_function::MapFunction, Refusal>
     requires count_bound { (transfer.count ≤ 64) × (b.n ≤ 64) }
     requires can_compose { CanCompose (pairs_in store.now places.now transfer.count)
         (pairs_in mid.now mids.now class.count) (class.count + transfer.count) bytes.old own.old }
@@ -201,16 +190,16 @@ fn finish(
     let n = transfer.count;
     let d = compose_list(store, places, transfer, mid, mids, class, bytes, own);
     if 64 < d.n {
-        return map_function::MapReply::Refused(refusal::Refusal::TooMany);
+        return Err(Refusal::TooMany);
     }
     if !has_room_beside(store, places, n, b, d, out.len(), slots.len()) {
-        return map_function::MapReply::Refused(refusal::Refusal::NoRoom);
+        return Err(Refusal::NoRoom);
     }
-    if !validate::both(short, pair_buffer::all_short(bytes, own, d.n)) {
-        return map_function::MapReply::Refused(refusal::Refusal::MadeTooLong);
+    if !short || !pair_buffer::all_short(bytes, own, d.n) {
+        return Err(Refusal::MadeTooLong);
     }
     let f = finish_composed(bytes, own, d.n, transfer, class, out, slots);
-    map_function::MapReply::Made(map_function::MapFunction {
+    Ok(map_function::MapFunction {
         count: f.count,
         has_root_identity: true,
         time_offset: time,
@@ -228,7 +217,7 @@ fn implied_in(
     class: map_function::MapFunction,
     out: &mut [u8],
     slots: &mut [usize],
-) -> map_function::MapReply
+) -> Result<map_function::MapFunction, Refusal>
     requires valid_list { ValidList (list_of store.now places.now transfer) }
     requires valid_list_2 { ValidList (list_of cstore.now cplaces.now class) }
     ensures { ReturnsMap (implied_outcome (map_of store.now places.now transfer)
@@ -245,7 +234,7 @@ fn implied_in(
         cstore, cplaces, class, &mid, &mids, back, &mut bytes, &mut own,
     );
     if 64 < b.n {
-        return map_function::MapReply::Refused(refusal::Refusal::TooMany);
+        return Err(Refusal::TooMany);
     }
     let short = pair_buffer::all_short(&bytes, &own, b.n);
     let part = finish_composed(&bytes, &own, b.n, class, back, &mut mid, &mut mids);
@@ -270,17 +259,14 @@ pub fn implied_class(
     class: map_function::MapFunction,
     out: &mut [u8],
     slots: &mut [usize],
-) -> map_function::MapReply
+) -> Result<map_function::MapFunction, Refusal>
     ensures { ReturnsMap (implied_class_call store.now places.now transfer
         cstore.now cplaces.now class out.old slots.old) result out.old
         out.new slots.old slots.new }
 {
     let n = class.count;
     let mark = class.has_root_identity;
-    let q = validate::validate_lists(store, places, transfer.count, cstore, cplaces, n);
-    if let refusal::Validation::Refused(x) = q {
-        return map_function::MapReply::Refused(x);
-    }
+    validate::validate_lists(store, places, transfer.count, cstore, cplaces, n)?;
     if transfer.is_identity() {
         let time = class.time_offset;
         return map_function::without_dropping(cstore, cplaces, n, mark, time, out, slots);

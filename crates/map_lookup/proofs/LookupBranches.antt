@@ -1,10 +1,11 @@
 -- Lemmas for the branches of `matches`, `better_of`, `consider` and `best_prefix`.
+use Rattle.std.specs.Prelude.{Option, Some, None}
+use Rattle.std.proofs.Common.{eq-eqb}
 use mathlib.Core.Path.{◌≡◌, refl, sym, ap, ◌∙◌}
 use mathlib.Core.Logic.{◌≢◌}
 use mathlib.Core.Bool.{Bool, true, false, not, cond, ◌&&◌, ◌||◌, false≢true}
 use mathlib.Core.List.{List, [], ◌∷◌, ◌++◌}
-use mathlib.Core.Option.{Option, none, some}
-use Prim.Native.Nat.{ℕ, suc, ◌+◌, ◌*◌, ◌-◌, ◌/◌, ◌≤◌, ◌<◌, min}
+use Prim.Native.Nat.{ℕ, suc, ◌+◌, ◌*◌, ◌-◌, ◌≤◌, ◌<◌, min}
 use native.Mathlib.Nat.{min-le_left, min-le_right, min-eq_left, min-eq_right}
 use native.Mathlib.Numerals.{add-one}
 use native.Mathlib.Omega.{arith}
@@ -20,7 +21,7 @@ use Rattle.path_prefix.specs.Elements.{element_count}
 use Rattle.path_prefix.proofs.CountLaws.{count_more}
 use Rattle.path_prefix.proofs.PrefixLaws.{prefix_rest, prefix_starts, prefix_long}
 use Rattle.map_lookup.specs.declared.BestSoFar.{BestSoFar}
-use Rattle.map_lookup.specs.LookupStep.{substring, key_count, found_of, not_worse, CoveredDecidesAlike, consider_key}
+use Rattle.map_lookup.specs.LookupStep.{substring, key_count, not_worse, CoveredDecidesAlike, consider_key}
 use Rattle.text_list.specs.Places.{text_at}
 use Rattle.pair_list.specs.Places.{key_at}
 use Rattle.pair_list.specs.Best.{not_lighter}
@@ -33,11 +34,6 @@ pub matches_empty : (p k : Text) → length k ≡ 0 → false ≡ matches p k
 unfolding matches
 matches_empty p [] l = refl
 matches_empty p (a ∷ k) l = absurd (omega arith)
-
-pub matches_prefix : (p k : Text) (r : Bool) → length k ≢ 0 → r ≡ has_prefix p k → r ≡ matches p k
-unfolding matches
-matches_prefix p [] r l h = absurd (l refl)
-matches_prefix p (a ∷ k) r l h = h
 
 -- Of two prefixes of one path, the longer begins with the shorter.
 prefix_of : (p s k : Text) → has_prefix p s ≡ true → has_prefix p k ≡ true → length s ≤ length k → k ≡ s ++ drop (length s) k
@@ -80,13 +76,6 @@ module _ (f : BestSoFar) (p k : Text) (i : ℕ) where
       pub choose_more : y ≤ x → record { at = i; covered = length k } ≡ consider_key f p k i
       unfolding consider_key not_worse
       choose_more n = rw (known_true h l, lt-leb f.covered (length k) m, ← e, ← d, le-leb y x n)
-
--- Lemmas for `min`.
-pub least_first : (a b : ℕ) → a ≤ b → a ≡ min a b
-least_first a b h = sym (min-eq_left h)
-
-pub least_second : (a b : ℕ) → b < a → b ≡ min a b
-least_second a b h = let l : b ≤ a = omega arith in sym (min-eq_right l)
 
 pub least_left : (m a b : ℕ) → m ≡ min a b → m ≤ a
 least_left m a b h = rw h (min-le_left a b)
@@ -185,25 +174,10 @@ module _ (f : BestSoFar) (p store : Text) (start n i : ℕ) where
     pub consider_chosen : (r : BestSoFar) → r ≡ consider_key f p (take (start + n - start) (drop start store)) i → r ≡ consider_key f p (substring store start n) i
     consider_chosen r e = rw (cut_is p store start n limit k z l h) at e
 
--- Lemmas for `key_count`.
-pub held_targets : (places : List ℕ) (n m : ℕ) (invert : Bool) → invert ≡ true → m ≡ min n (length places / 2 / 2) → m ≡ min n (key_count places invert)
-unfolding key_count
-held_targets places n m invert h e = let z : length places / 2 + 0 ≡ length places / 2 = omega arith in rw (h, z) e
-
-pub held_sources : (places : List ℕ) (n m : ℕ) (invert : Bool) → invert ≡ false → m ≡ min n ((length places / 2 + 1) / 2) → m ≡ min n (key_count places invert)
-unfolding key_count
-held_sources places n m invert h e = rw h e
-
-pub offset_target : (invert : Bool) → invert ≡ true → 2 ≡ 2 * cond invert 1 0
-offset_target invert h = rw h
-
-pub offset_source : (invert : Bool) → invert ≡ false → 0 ≡ 2 * cond invert 1 0
-offset_source invert h = rw h
-
 -- The match so far, given the index that is selected.
 abbrev pub match_kept : (ℕ → Text) → Option ℕ → BestSoFar
-match_kept key none = record { at = 0; covered = 0 }
-match_kept key (some j) = record { at = j; covered = length (key j) }
+match_kept key None = record { at = 0; covered = 0 }
+match_kept key (Some j) = record { at = j; covered = length (key j) }
 
 -- A key that matches is not empty.
 matched_long : (p k : Text) → matches p k ≡ true → length k ≢ 0
@@ -221,29 +195,29 @@ module _ (p : Text) (key : ℕ → Text) (i : ℕ) where
     where
       -- If the key matches, the step compares the elements of two prefixes of the path.
       compared : (j : ℕ) → matches p (key j) ≡ true → (b : Bool) → matches p (key i) ≡ b
-          → cond (b && not_worse p (length (key j)) (key i)) (match_kept key (some i)) (match_kept key (some j))
-          ≡ cond (b && leb (element_count (key j)) (element_count (key i))) (match_kept key (some i)) (match_kept key (some j))
-      compared j h true s = ap (λ (c : Bool). cond c (match_kept key (some i)) (match_kept key (some j))) (covered_decides_alike p (key j) (key i) (served p (key j) h) (served p (key i) s))
+          → cond (b && not_worse p (length (key j)) (key i)) (match_kept key (Some i)) (match_kept key (Some j))
+          ≡ cond (b && leb (element_count (key j)) (element_count (key i))) (match_kept key (Some i)) (match_kept key (Some j))
+      compared j h true s = ap (λ (c : Bool). cond c (match_kept key (Some i)) (match_kept key (Some j))) (covered_decides_alike p (key j) (key i) (served p (key j) h) (served p (key i) s))
       compared j h false s = refl
 
       go : (o : Option ℕ) → SaysLongest (matches p) key i o
-          → consider_key (match_kept key o) p (key i) i ≡ cond (matches p (key i) && not_lighter (λ (j : ℕ). element_count (key j)) o i) (match_kept key (some i)) (match_kept key o)
-      go none w = rw (le-leb 0 (length (key i)) (omega arith))
-      go (some j) w = compared j w.does_pass (matches p (key i)) refl
+          → consider_key (match_kept key o) p (key i) i ≡ cond (matches p (key i) && not_lighter (λ (j : ℕ). element_count (key j)) o i) (match_kept key (Some i)) (match_kept key o)
+      go None w = rw (le-leb 0 (length (key i)) (omega arith))
+      go (Some j) w = compared j w.does_pass (matches p (key i)) refl
 
   pub kept_short : (f : BestSoFar) → f ≡ match_kept key (longest_match p key i) → f.covered ≤ length p
   kept_short f e = rw e (go (longest_match p key i) (best_says p key i))
     where
       go : (o : Option ℕ) → SaysLongest (matches p) key i o → (match_kept key o).covered ≤ length p
-      go none w = omega arith
-      go (some j) w = prefix_long p (key j) (served p (key j) w.does_pass)
+      go None w = omega arith
+      go (Some j) w = prefix_long p (key j) (served p (key j) w.does_pass)
 
-  found_kept : (f : BestSoFar) → f ≡ match_kept key (longest_match p key i) → record { found = not (eqb f.covered 0); at = f.at } ≡ found_of (longest_match p key i)
+  found_kept : (f : BestSoFar) → f ≡ match_kept key (longest_match p key i) → cond (eqb f.covered 0) None (Some f.at) ≡ longest_match p key i
   found_kept f e = rw e (go (longest_match p key i) (best_says p key i))
     where
-      go : (o : Option ℕ) → SaysLongest (matches p) key i o → record { found = not (eqb (match_kept key o).covered 0); at = (match_kept key o).at } ≡ found_of o
-      go none w = refl
-      go (some j) w = rw (ne_eqb (length (key j)) 0 (matched_long p (key j) w.does_pass))
+      go : (o : Option ℕ) → SaysLongest (matches p) key i o → cond (eqb (match_kept key o).covered 0) None (Some (match_kept key o).at) ≡ o
+      go None w = refl
+      go (Some j) w = rw (ne_eqb (length (key j)) 0 (matched_long p (key j) w.does_pass))
 
 -- The numbers of the keys that count lie in the slice.
 pub held_there : (places : List ℕ) (n held offset : ℕ) (invert : Bool) → held ≡ min n (key_count places invert) → offset ≡ 2 * cond invert 1 0
@@ -270,11 +244,11 @@ key_after store places false k h = sym (text_missing store places (2 * k + 0) (o
 
 pub kept_end : (p store : Text) (places : List ℕ) (n : ℕ) (invert : Bool) (held i : ℕ) (f : BestSoFar) → held ≡ min n (key_count places invert)
     → f ≡ match_kept (key_at store places invert) (longest_match p (key_at store places invert) i) → held ≤ i → i ≤ held
-    → record { found = not (eqb f.covered 0); at = f.at } ≡ found_of (longest_match p (key_at store places invert) n)
+    → cond (eqb f.covered 0) None (Some f.at) ≡ longest_match p (key_at store places invert) n
 unfolding longest_match
 kept_end p store places n invert held i f m h l r =
     let e : i ≡ min n (key_count places invert) = omega arith in
-    found_kept p key i f h ∙ rw e (ap (λ (o : Option ℕ). found_of o) (go (leb n (key_count places invert)) refl))
+    found_kept p key i f h ∙ rw e (go (leb n (key_count places invert)) refl)
   where
     key : ℕ → Text
     key = key_at store places invert
@@ -287,4 +261,17 @@ kept_end p store places n invert held i f m h l r =
         (best_rest (λ (k : ℕ). matches p (key k)) (λ (k : ℕ). element_count (key k)) (key_count places invert) n (omega arith)
         (λ k h. rw (key_after store places invert k h) (sym (matches_empty p [] refl))))
 
-pub ruleset searching = (matches_empty, matches_prefix, choose_other, choose_longer, choose_fewer, choose_more, least_first, least_second, consider_none, consider_long, consider_outside, consider_differs, consider_chosen, held_targets, held_sources, offset_target, offset_source, least_left, least_right, kept_end)
+-- What the loop has found at its end.
+pub none_left : (p store : Text) (places : List ℕ) (n : ℕ) (invert : Bool) (held i : ℕ) (f : BestSoFar) → held ≡ min n (key_count places invert)
+    → f ≡ match_kept (key_at store places invert) (longest_match p (key_at store places invert) i) → held ≤ i → i ≤ held
+    → f.covered ≡ 0 → None ≡ longest_match p (key_at store places invert) n
+none_left p store places n invert held i f m h l r z =
+    ap (λ (b : Bool). cond b None (Some f.at)) (sym (eq-eqb f.covered 0 z)) ∙ kept_end p store places n invert held i f m h l r
+
+pub some_left : (p store : Text) (places : List ℕ) (n : ℕ) (invert : Bool) (held i : ℕ) (f : BestSoFar) → held ≡ min n (key_count places invert)
+    → f ≡ match_kept (key_at store places invert) (longest_match p (key_at store places invert) i) → held ≤ i → i ≤ held
+    → f.covered ≢ 0 → Some f.at ≡ longest_match p (key_at store places invert) n
+some_left p store places n invert held i f m h l r z =
+    ap (λ (b : Bool). cond b None (Some f.at)) (sym (ne_eqb f.covered 0 z)) ∙ kept_end p store places n invert held i f m h l r
+
+pub ruleset searching = (matches_empty, choose_other, choose_longer, choose_fewer, choose_more, consider_none, consider_long, consider_outside, consider_differs, consider_chosen, least_left, least_right, none_left, some_left)

@@ -1,9 +1,9 @@
 -- Lemmas for the branches of `wins`, `other_wins` and `is_longest_match`.
+use Rattle.std.specs.Prelude.{Option, Some, None}
 use mathlib.Core.Path.{◌≡◌, refl, sym, ◌∙◌}
 use mathlib.Core.Logic.{◌≢◌}
 use mathlib.Core.Bool.{Bool, true, false, not, cond, ◌&&◌, ◌||◌, false≢true, true≢false}
 use mathlib.Core.List.{List, []}
-use mathlib.Core.Option.{Option, none, some}
 use Prim.Native.Nat.{ℕ, ◌+◌, ◌*◌, ◌-◌, ◌≤◌, ◌<◌, min}
 use native.Mathlib.Nat.{min-eq_left, min-eq_right}
 use native.Mathlib.Omega.{arith}
@@ -19,21 +19,6 @@ use Rattle.pair_list.specs.Places.{key_at}
 use Rattle.pair_list.specs.LongestMatch.{matches, longest_match}
 use Rattle.pair_list.proofs.LongestMatchLaws.{IsLongest, SaysLongest, best_says}
 use Rattle.map_lookup.proofs.LookupBranches.{matches_empty, cut_none, cut_long, cut_outside, cut_differs, cut_is, key_is, key_after, least_left}
-
--- Lemmas for `wins`.
-module _ (p t : Text) (before : Bool) (key : Text) (b : Bool) (h : b ≡ matches p t) where
-  pub wins_not : not b ≡ true → false ≡ wins p t before key
-  unfolding wins
-  wins_not k = rw (known_false h k)
-
-  module _ (k : not b ≡ false) (n m : ℕ) (e : n ≡ element_count key) (f : m ≡ element_count t) where
-    pub wins_before : before ≡ true → ltb n m ≡ wins p t before key
-    unfolding wins
-    wins_before g = rw (known_true h k, g, e, f)
-
-    pub wins_after : before ≡ false → leb n m ≡ wins p t before key
-    unfolding wins
-    wins_after g = rw (known_true h k, g, e, f)
 
 -- Lemmas for `other_wins`.
 no_other_lem : (p t : Text) (k i : ℕ) (key : Text) → matches p t ≡ false → false ≡ other_wins p t k i key
@@ -69,7 +54,7 @@ module _ (p store : Text) (start n k i : ℕ) (key : Text) where
         other true b d = d
         other false b d = absurd (true≢false d)
 
-pub ruleset rivalling = (wins_not, wins_before, wins_after, other_none, other_long, other_outside, other_refused, other_validated)
+pub ruleset rivalling = (other_none, other_long, other_outside, other_refused, other_validated)
 
 -- The loop invariant: none of the first k keys would be selected instead of the key at index i.
 pub record Unrivalled (p : Text) (key : ℕ → Text) (i k : ℕ) : Type 0 where
@@ -89,8 +74,8 @@ module _ (p : Text) (key : ℕ → Text) (n i : ℕ) where
   best_after l = go (longest_match p key n) (best_says p key n)
     where
       go : (o : Option ℕ) → SaysLongest (matches p) key n o → false ≡ is_index i o
-      go none w = refl
-      go (some j) w = sym (ne_eqb i j (λ e. omega (arith, w.in_range_lem)))
+      go None w = refl
+      go (Some j) w = sym (ne_eqb i j (λ e. omega (arith, w.in_range_lem)))
 
   module _ (s : Text) (b : Bool) (e : s ≡ key i) (h : b ≡ matches p s) where
     pub best_unserved : not b ≡ true → false ≡ is_index i (longest_match p key n)
@@ -100,8 +85,8 @@ module _ (p : Text) (key : ℕ → Text) (n i : ℕ) where
         unserved = rw (← e) (known_false h k)
 
         go : (o : Option ℕ) → SaysLongest (matches p) key n o → false ≡ is_index i o
-        go none w = refl
-        go (some j) w = sym (ne_eqb i j (λ q. false≢true (sym unserved ∙ rw q w.does_pass)))
+        go None w = refl
+        go (Some j) w = sym (ne_eqb i j (λ q. false≢true (sym unserved ∙ rw q w.does_pass)))
 
     pub best_rivalled : (k : ℕ) (r : Bool) (t : Text) → k < n → t ≡ key k → r ≡ other_wins p t k i s → r ≡ true → false ≡ is_index i (longest_match p key n)
     unfolding other_wins wins
@@ -126,8 +111,8 @@ module _ (p : Text) (key : ℕ → Text) (n i : ℕ) where
             omega (arith, ltb-false k i q, eqb-false k i apart, w.last k l passes (leb-true (element_count (key i)) (element_count (key k)) (rw q at more)))
 
         go : (o : Option ℕ) → SaysLongest (matches p) key n o → false ≡ is_index i o
-        go none w = refl
-        go (some j) w = sym (ne_eqb i j (λ q. beaten (rw q w) (ltb k i) refl))
+        go None w = refl
+        go (Some j) w = sym (ne_eqb i j (λ q. beaten (rw q w) (ltb k i) refl))
 
     module _ (l : i < n) (k : not b ≡ false) (held : ℕ) (after : (m : ℕ) → m < n → held ≤ m → key m ≡ []) (u : Unrivalled p key i held) where
       none_others : (m : ℕ) → m < n → other_wins p (key m) m i (key i) ≡ false
@@ -153,8 +138,8 @@ module _ (p : Text) (key : ℕ → Text) (n i : ℕ) where
               omega (arith, w.most i l mine, leb-false (element_count (key i)) (element_count (key j)) x)
 
           go : (o : Option ℕ) → SaysLongest (matches p) key n o → true ≡ is_index i o
-          go none w = absurd (w i l mine)
-          go (some j) w = elim (ℕ_discrete i j) [
+          go None w = absurd (w i l mine)
+          go (Some j) w = elim (ℕ_discrete i j) [
             | yes q ↦ sym (eq-eqb i j q)
             | no d ↦ absurd (lost j w (ne_eqb j i (λ q. d (sym q))) (ltb j i) refl)
           ]

@@ -1,17 +1,10 @@
 -- Method: The steps of the search for the longest match: what it keeps, and which keys it skips.
-use Rattle.std.specs.Prelude.{◌≡◌, ℕ, ◌+◌, ◌/◌, Bool, true, false, not, cond, ◌&&◌, ◌||◌, List, [], eqb, leb, ltb, length, take, drop}
-use Rattle.std.proofs.Math.Option.{Option, none, some}
+use Rattle.std.specs.Prelude.{◌≡◌, ℕ, ◌+◌, ◌/◌, Bool, true, false, not, cond, ◌&&◌, ◌||◌, List, [], eqb, leb, ltb, length, take, drop, Option, Some, None}
 use Rattle.text.specs.Text.{Text}
 use Rattle.path_prefix.specs.Prefix.{has_prefix}
 use Rattle.path_prefix.specs.Elements.{count_elements, element_count}
-use Rattle.map_lookup.specs.declared.Found.{Found}
 use Rattle.map_lookup.specs.declared.BestSoFar.{BestSoFar}
 use Rattle.pair_list.specs.LongestMatch.{matches}
-
--- The result of a lookup; the index is 0 if no pair matches.
-abbrev pub found_of : Option ℕ → Found
-found_of none = record { found = false; at = 0 }
-found_of (some i) = record { found = true; at = i }
 
 -- The key k has at least as many elements as the match so far, which covers the first n bytes of the path p. Elements are counted only if k
 -- covers fewer bytes.
@@ -31,8 +24,8 @@ consider_key f p k i = cond (matches p k && not_worse p f.covered k) (record { a
 
 -- The selected index is i.
 abbrev pub is_index : ℕ → Option ℕ → Bool
-is_index i none = false
-is_index i (some j) = eqb i j
+is_index i None = false
+is_index i (Some j) = eqb i j
 
 -- The text t would be selected instead of the key; `before` states whether it comes before the key in the list.
 unfoldable pub wins : Text → Text → Bool → Text → Bool

@@ -3,18 +3,9 @@
 #![tactic(auto)]
 
 ghost use Rattle.std.specs.Prelude.{◌≡◌, cond, length, ◌*◌, ◌≤◌, min};
-ghost use Rattle.map_lookup.specs.LookupStep.{substring, key_count, found_of, consider_key, is_index, wins, other_wins};
+ghost use Rattle.map_lookup.specs.LookupStep.{substring, key_count, consider_key, is_index, wins, other_wins};
 ghost use Rattle.pair_list.specs.Places.{key_at};
 ghost use Rattle.pair_list.specs.LongestMatch.{matches, longest_match};
-
-// The result of a lookup.
-#[derive(Clone, Copy)]
-pub struct Found {
-    // Whether a pair matches.
-    pub found: bool,
-    // Index of the pair; 0 if none matches.
-    pub at: usize,
-}
 
 // The longest match so far: the index of the pair, and how many bytes of the path its key covers, which is 0
 // before a key has matched. That number is no key length: keys are measured in elements. It says where the key
@@ -27,17 +18,16 @@ struct BestSoFar {
 }
 
 // Returns whether the key matches the path: it is a nonempty prefix of it.
+#[tactic(auto, unfolding(pair_list::specs::LongestMatch::matches))]
 pub fn matches(path: &[u8], key: &[u8]) -> bool
     ensures { result ≡ matches path.now key.now }
 {
-    if key.len() == 0 {
-        return false;
-    }
-    path_prefix::has_prefix(path, key)
+    !key.is_empty() && path_prefix::has_prefix(path, key)
 }
 
 // Returns the match so far or the key at index `i`, whichever has more elements, the key on a tie. Elements are
 // counted only if the key matches and covers fewer bytes of the path than the match so far.
+#[tactic(auto, using(crate::proofs::LookupBranches::searching))]
 fn better_of(f: BestSoFar, path: &[u8], key: &[u8], i: usize) -> BestSoFar
     requires { f.covered ≤ length path.now }
     ensures { result ≡ consider_key f path.now key.now i }
@@ -57,6 +47,7 @@ fn better_of(f: BestSoFar, path: &[u8], key: &[u8], i: usize) -> BestSoFar
 
 // Like `better_of`, for the key of n bytes from `start` if it lies in the store. Most keys are rejected by
 // their length or their last byte.
+#[tactic(auto, using(crate::proofs::LookupBranches::searching))]
 fn consider(
     f: BestSoFar,
     store: &[u8],
@@ -88,61 +79,51 @@ fn consider(
     better_of(f, path, &store[start..end], i)
 }
 
-// The smaller of two numbers.
-fn min(a: usize, b: usize) -> usize
-    ensures { result ≡ min a b }
-{
-    if a <= b {
-        return a;
-    }
-    b
-}
-
 // The number of the first n pairs whose key lies in the slice, which may end after a source.
+#[tactic(auto, unfolding(crate::specs::LookupStep::key_count))]
 fn key_count(places: &[usize], n: usize, invert: bool) -> usize
     ensures { result ≡ min n (key_count places.now invert) }
 {
     let half = places.len() / 2;
-    if invert {
-        return min(n, half / 2);
-    }
-    min(n, (half + 1) / 2)
+    n.min(if invert { half / 2 } else { (half + 1) / 2 })
 }
 
 // The offset of a key's start and length among the four numbers of its pair.
 fn key_offset(invert: bool) -> usize
     ensures { result ≡ 2 * cond invert 1 0 }
 {
-    if invert {
-        return 2;
-    }
-    0
+    if invert { 2 } else { 0 }
 }
 
-// Finds the longest match: the key that is a nonempty prefix of the path and has most elements, the
-// later on a tie.
-pub fn best_prefix(store: &[u8], places: &[usize], n: usize, invert: bool, path: &[u8]) -> Found
-    ensures { result ≡ found_of (longest_match path.now
-        (key_at store.now places.now invert) n) }
+// Returns the index of the longest match: the key that is a nonempty prefix of the path and has most
+// elements, the later on a tie.
+#[tactic(auto, using(crate::proofs::LookupBranches::searching))]
+pub fn best_prefix(
+    store: &[u8],
+    places: &[usize],
+    n: usize,
+    invert: bool,
+    path: &[u8],
+) -> Option<usize>
+    ensures { result ≡ longest_match path.now (key_at store.now places.now invert) n }
 {
     let present = key_count(places, n, invert);
     let offset = key_offset(invert);
-    let limit = min(store.len(), path.len());
+    let limit = store.len().min(path.len());
     let mut f = BestSoFar { at: 0, covered: 0 };
-    let mut i = 0;
-    while i < present {
+    for i in 0..present {
         let j = 4 * i + offset;
         f = consider(f, store, places[j], places[j + 1], limit, path, i);
-        i += 1;
     }
-    Found {
-        found: f.covered != 0,
-        at: f.at,
+    if f.covered == 0 {
+        return None;
     }
+    Some(f.at)
 }
 
 // Returns whether the text `t` would be selected instead of the key; `before` states whether it comes
 // before the key in the list.
+#[tactic(auto, unfolding(crate::specs::LookupStep::wins))]
 fn wins(path: &[u8], t: &[u8], before: bool, key: &[u8]) -> bool
     ensures { result ≡ wins path.now t.now before key.now }
 {
@@ -160,6 +141,7 @@ fn wins(path: &[u8], t: &[u8], before: bool, key: &[u8]) -> bool
 // Like `wins`, for the text of n bytes from `start`, at index `k`, and the key at index `i`. As in
 // `consider`, most texts are rejected by their length or their last byte; the last byte and the key
 // itself are tested in one branch.
+#[tactic(auto, using(crate::proofs::OtherWinsBranches::rivalling))]
 fn other_wins(
     store: &[u8],
     start: usize,
@@ -213,14 +195,12 @@ pub fn is_longest_match(
     }
     let present = key_count(places, n, invert);
     let offset = key_offset(invert);
-    let limit = min(store.len(), path.len());
-    let mut k = 0;
-    while k < present {
+    let limit = store.len().min(path.len());
+    for k in 0..present {
         let j = 4 * k + offset;
         if other_wins(store, places[j], places[j + 1], limit, path, k, i, key) {
             return false;
         }
-        k += 1;
     }
     true
 }

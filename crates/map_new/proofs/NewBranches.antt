@@ -1,4 +1,5 @@
 -- Lemmas for the branches of the calls that build a map from pairs.
+use Rattle.std.specs.Prelude.{Result, Ok, ⊤}
 use mathlib.Core.Path.{◌≡◌, refl}
 use mathlib.Core.Bool.{Bool, true, false}
 use mathlib.Core.List.{List, [], ◌∷◌}
@@ -10,26 +11,21 @@ use Rattle.layer_offset.specs.declared.LayerOffset.{LayerOffset}
 use Rattle.pair_list.specs.Pair.{Pair, pair}
 use Rattle.pair_list.specs.Places.{pairs_in}
 use Rattle.refusal.specs.declared.Refusal.{Refusal}
-use Rattle.refusal.specs.declared.Validation.{Validation}
-use Rattle.refusal.specs.declared.Validation.TheVariants.{Passed, Refused as RefusedValidation}
 use Rattle.validate.specs.Validate.{LentList, lent_list, pairs_of, validate_call}
 use Rattle.validate.proofs.PassedLaws.{first_sound}
 use Rattle.map_spec.specs.Map.{Map}
 use Rattle.map_spec.specs.New.{from_parts, new, from_pair, from_pair_identity}
-use Rattle.map_function.specs.MapOutcome.{MapOutcome, refused, within_limits, count_in_slice, without_dropping, from_parts_outcome}
+use Rattle.map_function.specs.MapOutcome.{MapOutcome, within_limits, count_in_slice, without_dropping, from_parts_outcome}
 use Rattle.layer_offset.specs.Offset.{identity_offset}
 use Rattle.map_new.specs.Calls.{make_map, map_new_call, from_pair_call, from_pair_identity_call}
 
--- A refusal is returned unchanged, and a call whose validation passed yields the map.
-module _ (a : Validation) (l : List Pair) (m : Map) (time : LayerOffset) (out : Text) (slots : List ℕ) (q : Validation) (h : q ≡ a) where
-  pub made_refused : (x : Refusal) → q ≡ RefusedValidation x → make_map a l m time out slots ≡ refused x
-  made_refused x k = rw (← h, k) refl
-
-  pub made_passed : q ≡ Passed → make_map a l m time out slots ≡ within_limits l m time out slots
+-- A call whose validation passed yields the map.
+module _ (a : Result ⊤ Refusal) (l : List Pair) (m : Map) (time : LayerOffset) (out : Text) (slots : List ℕ) (q : Result ⊤ Refusal) (h : q ≡ a) where
+  pub made_passed : q ≡ Ok tt → make_map a l m time out slots ≡ within_limits l m time out slots
   made_passed k = rw (← h, k) refl
 
 -- The slice of a lent list that passed holds its pairs.
-pub held_passed : (l : LentList) (ts es : List Text) → validate_call (l ∷ []) ts es ≡ Passed → (o : MapOutcome) → count_in_slice l o ≡ o
+pub held_passed : (l : LentList) (ts es : List Text) → validate_call (l ∷ []) ts es ≡ Ok tt → (o : MapOutcome) → count_in_slice l o ≡ o
 unfolding count_in_slice
 held_passed l ts es h o = rw (le-leb l.count (length l.places / 4) (first_sound l [] ts es h).held) refl
 

@@ -1,18 +1,18 @@
 -- Meaning: The calls that build a map from pairs: validation in the order of the questions, then the result.
-use Rattle.std.specs.Prelude.{ℕ, List, [], ◌∷◌}
+use Rattle.std.specs.Prelude.{ℕ, List, [], ◌∷◌, Result, ⊤}
 use Rattle.text.specs.Text.{Text}
 use Rattle.layer_offset.specs.declared.LayerOffset.{LayerOffset}
 use Rattle.layer_offset.specs.Offset.{identity_offset}
 use Rattle.pair_list.specs.Pair.{Pair, pair}
-use Rattle.refusal.specs.declared.Validation.{Validation}
 use Rattle.refusal.specs.Refusal.{refused_or}
 use Rattle.validate.specs.Validate.{lent_list, pairs_of, validate_call}
 use Rattle.map_spec.specs.Map.{Map}
 use Rattle.map_spec.specs.New.{new, from_pair, from_pair_identity}
 use Rattle.map_function.specs.MapOutcome.{MapOutcome, refused, within_limits}
+use Rattle.refusal.specs.declared.Refusal.{Refusal}
 
 -- The result a of the questions that come first, then the map m, with questions 4 and 5 applied to the list l that dropping started from.
-abbrev pub make_map : Validation → List Pair → Map → LayerOffset → Text → List ℕ → MapOutcome
+abbrev pub make_map : Result ⊤ Refusal → List Pair → Map → LayerOffset → Text → List ℕ → MapOutcome
 make_map a l m time out slots = refused_or a refused (within_limits l m time out slots)
 
 -- The call `new`. Its list before dropping is the one it is given; its map has the time offset (0, 1). Requirements: "the list that the

@@ -9,21 +9,21 @@ ghost use Rattle.pair_list.specs.Places.{pairs_in};
 ghost use Rattle.map_function.specs.MapOutcome.{ReturnsMap};
 ghost use Rattle.map_new.specs.Calls.{map_new_call, from_pair_call, from_pair_identity_call};
 
+use refusal::Refusal;
+
 // Builds the map of the pairs in canonical form.
+#[tactic(auto, unfolding(crate::specs::Calls::map_new_call, map_function::specs::MapOutcome::map_reply, map_function::specs::MapOutcome::map_bytes, map_function::specs::MapOutcome::map_slots))]
 pub fn new(
     store: &[u8],
     places: &[usize],
     count: usize,
     out: &mut [u8],
     slots: &mut [usize],
-) -> map_function::MapReply
+) -> Result<map_function::MapFunction, Refusal>
     ensures { ReturnsMap (map_new_call store.now places.now count out.old
         slots.old) result out.old out.new slots.old slots.new }
 {
-    let q = validate::validate_list(store, places, count);
-    if let refusal::Validation::Refused(x) = q {
-        return map_function::MapReply::Refused(x);
-    }
+    validate::validate_list(store, places, count)?;
     let time = layer_offset::LayerOffset::IDENTITY;
     map_function::from_parts(store, places, count, false, time, out, slots)
 }
@@ -39,19 +39,17 @@ fn store_pair(s: &[u8], t: &[u8], store: &mut [u8], places: &mut [usize])
 }
 
 // Builds the map of one pair, unchanged and without the mark.
+#[tactic(auto, unfolding(crate::specs::Calls::from_pair_call, map_function::specs::MapOutcome::map_reply, map_function::specs::MapOutcome::map_bytes, map_function::specs::MapOutcome::map_slots))]
 pub fn from_pair(
     source: &[u8],
     target: &[u8],
     out: &mut [u8],
     slots: &mut [usize],
-) -> map_function::MapReply
+) -> Result<map_function::MapFunction, Refusal>
     ensures { ReturnsMap (from_pair_call source.now target.now out.old
         slots.old) result out.old out.new slots.old slots.new }
 {
-    let q = validate::validate_ends(source, target);
-    if let refusal::Validation::Refused(x) = q {
-        return map_function::MapReply::Refused(x);
-    }
+    validate::validate_ends(source, target)?;
     let mut store = [0u8; 512];
     let mut places = [0usize; 4];
     store_pair(source, target, &mut store, &mut places);
@@ -60,19 +58,17 @@ pub fn from_pair(
 }
 
 // Builds the map of one pair and the mark.
+#[tactic(auto, unfolding(crate::specs::Calls::from_pair_identity_call, map_function::specs::MapOutcome::map_reply, map_function::specs::MapOutcome::map_bytes, map_function::specs::MapOutcome::map_slots))]
 pub fn from_pair_identity(
     source: &[u8],
     target: &[u8],
     out: &mut [u8],
     slots: &mut [usize],
-) -> map_function::MapReply
+) -> Result<map_function::MapFunction, Refusal>
     ensures { ReturnsMap (from_pair_identity_call source.now target.now out.old
         slots.old) result out.old out.new slots.old slots.new }
 {
-    let q = validate::validate_ends(source, target);
-    if let refusal::Validation::Refused(x) = q {
-        return map_function::MapReply::Refused(x);
-    }
+    validate::validate_ends(source, target)?;
     let mut store = [0u8; 512];
     let mut places = [0usize; 4];
     store_pair(source, target, &mut store, &mut places);

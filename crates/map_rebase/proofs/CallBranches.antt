@@ -1,4 +1,5 @@
 -- Lemmas about the branches of the call.
+use Rattle.std.specs.Prelude.{Result, Ok, Err, ⊤}
 use mathlib.Core.Path.{◌≡◌, refl, sym, ◌∙◌}
 use mathlib.Core.Bool.{Bool, true, false, not, cond, ◌&&◌}
 use mathlib.Core.List.{List, [], ◌∷◌}
@@ -12,8 +13,6 @@ use Rattle.layer_offset.specs.declared.LayerOffset.{LayerOffset}
 use Rattle.pair_list.specs.Pair.{pair}
 use Rattle.pair_list.specs.Places.{pairs_in}
 use Rattle.refusal.specs.declared.Refusal.{Refusal}
-use Rattle.refusal.specs.declared.Validation.{Validation}
-use Rattle.refusal.specs.declared.Validation.TheVariants.{Passed, Refused as RefusedValidation}
 use Rattle.validate.specs.Validate.{lent_list, validate_call, ValidList}
 use Rattle.validate.proofs.PassedLaws.{first_sound, text_short, second_short}
 use Rattle.map_spec.specs.Map.{Map}
@@ -42,15 +41,15 @@ one_pair s t time out slots bytes bytes' own own' end a =
 
 -- `rebase_target`
 module _ (store : Text) (places : List ℕ) (f : MapFunction) (from to : Text) (out : Text) (slots : List ℕ)
-    (q : Validation) (h : q ≡ validate_call (list_of store places f ∷ []) (from ∷ to ∷ []) (from ∷ to ∷ [])) where
+    (q : Result ⊤ Refusal) (h : q ≡ validate_call (list_of store places f ∷ []) (from ∷ to ∷ []) (from ∷ to ∷ [])) where
   abbrev m : Map
   m = map_of store places f
 
-  pub rebase_refused : (x : Refusal) → q ≡ RefusedValidation x → rebase_target_call store places f from to out slots ≡ refused x
+  pub rebase_refused : (x : Refusal) → q ≡ Err x → rebase_target_call store places f from to out slots ≡ refused x
   unfolding rebase_target_call
   rebase_refused x k = rw (← h, k)
 
-  module _ (k : q ≡ Passed) where
+  module _ (k : q ≡ Ok tt) where
     pub sound : ValidList (list_of store places f)
     sound = first_sound (list_of store places f) [] (from ∷ to ∷ []) (from ∷ to ∷ []) (sym h ∙ k)
 
@@ -64,9 +63,9 @@ module _ (store : Text) (places : List ℕ) (f : MapFunction) (from to : Text) (
     pub rebase_to : length to ≤ 255
     rebase_to = second_short (list_of store places f ∷ []) from to [] (from ∷ to ∷ []) (sym h ∙ k)
 
-    module _ (b : Bool) (g : b ≡ (eqb f.count 0 && f.has_root_identity)) where
+    module _ (b : Bool) (g : (eqb f.count 0 && f.has_root_identity) ≡ b) where
       identity_is : is_path_identity m ≡ b
-      identity_is = identity_lent store places f.count f.has_root_identity ∙ sym g
+      identity_is = identity_lent store places f.count f.has_root_identity ∙ g
 
       pub rebase_identity : b ≡ true
           → rebase_target_call store places f from to out slots ≡ within_limits (pair from to ∷ []) (from_pair_identity (pair from to)) f.time_offset out slots

@@ -1,14 +1,14 @@
 -- Lemmas about the branches of the functions that build the list.
+use Rattle.std.specs.Bool.{MatchBool}
 use mathlib.Core.Path.{◌≡◌, refl, sym, ap, ◌∙◌}
 use mathlib.Core.Bool.{Bool, true, false, ◌||◌}
 use mathlib.Core.List.{List, [], ◌∷◌, ◌++◌}
 use Prim.Native.Nat.{ℕ, zero, suc, ◌+◌, ◌≤◌, ◌<◌}
 use native.Mathlib.Omega.{arith}
 use native.Mathlib.Decide.{ℕ_discrete}
-use native.Mathlib.Numerals.{add-one}
 use lib.ListN.{length, take}
 use Rattle.text.specs.Text.{Text}
-use Rattle.text.proofs.BoolLaws.{or_right, or_false, told}
+use Rattle.text.proofs.BoolLaws.{or_right, or_false}
 use Rattle.path_prefix.specs.Prefix.{has_prefix}
 use Rattle.path_join.specs.Join.{replace_prefix}
 use Rattle.pair_list.specs.Pair.{Pair, pair}
@@ -51,21 +51,16 @@ module _ (store : Text) (places : List ℕ) (from : Text) where
         | no d ↦ target_next n ∙ rw (grown n i (omega arith) e)
       ]
 
-  pub target_begin : any_target_below from (pairs_in store places 0) ≡ false
+  unseen : (n : ℕ) → ((k : ℕ) → k < n → has_prefix (key_at store places true k) from ≡ false) → any_target_below from (pairs_in store places n) ≡ false
   unfolding pairs_in any_target_below
-  target_begin = refl
+  unseen zero f = refl
+  unseen (suc n) f = target_next n ∙ rw (unseen n (λ k h. f k (omega arith)), f n (omega arith))
 
-  module _ (i : ℕ) (k : Text) (e : k ≡ key_at store places true i) (b : Bool) (h : b ≡ has_prefix k from) where
-    pub target_found : (n : ℕ) → i < n → b ≡ true → true ≡ any_target_below from (pairs_in store places n)
-    target_found n l t = sym (grown n i l (rw e at (told h t)))
-
-    pub target_on : b ≡ false → any_target_below from (pairs_in store places i) ≡ false → any_target_below from (pairs_in store places (i + 1)) ≡ false
-    target_on f g = rw (add-one i) (target_next i ∙ rw g (rw e at (told h f)))
-
-  pub target_end : (n i : ℕ) → n ≤ i → i ≤ n → any_target_below from (pairs_in store places i) ≡ false → false ≡ any_target_below from (pairs_in store places n)
-  target_end n i l m e = let z : n ≡ i = omega arith in rw z (sym e)
-
-pub ruleset targets = (target_begin, target_found, target_on, target_end)
+  pub target_in : (n : ℕ) (r : Bool)
+      → MatchBool r ((k : ℕ) × (k < n) × (has_prefix (key_at store places true k) from ≡ true)) ((k : ℕ) → k < n → has_prefix (key_at store places true k) from ≡ false)
+      → r ≡ any_target_below from (pairs_in store places n)
+  target_in n true w = sym (grown n w.0 w.1 w.2)
+  target_in n false w = sym (unseen n w)
 
 -- `rebase_all`
 pub rebased_pair_lem : (store : Text) (places : List ℕ) (i : ℕ) (from to s t : Text) → s ≡ key_at store places false i → t ≡ key_at store places true i

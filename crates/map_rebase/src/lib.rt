@@ -14,6 +14,8 @@ ghost use Rattle.pair_list_write.specs.Packed.{HoldsList, AppendedPair, ScratchR
 ghost use Rattle.pair_buffer.specs.Ends.{replaced_or_same};
 ghost use Rattle.map_rebase.specs.Calls.{rebased_pairs, rebased_map, rebase_target_call};
 
+use refusal::Refusal;
+
 // Appends a pair with its target re-anchored and returns the offset after it.
 fn rebase_pair(
     s: &[u8],
@@ -44,14 +46,7 @@ fn rebase_pair(
 fn any_target(store: &[u8], places: &[usize], n: usize, from: &[u8]) -> bool
     ensures { result ≡ any_target_below from.now (pairs_in store.now places.now n) }
 {
-    let mut i = 0;
-    while i < n {
-        if path_prefix::has_prefix(pair_list::key_at(store, places, i, true), from) {
-            return true;
-        }
-        i += 1;
-    }
-    false
+    (0..n).any(|i| path_prefix::has_prefix(pair_list::key_at(store, places, i, true), from))
 }
 
 // Writes the first n pairs with their targets re-anchored and returns the offset after them.
@@ -71,12 +66,10 @@ fn rebase_all(
         (pairs_in store.now places.now n)) n result bytes.new slots.new }
 {
     let mut at = 0;
-    let mut i = 0;
-    while i < n {
+    for i in 0..n {
         let s = pair_list::key_at(store, places, i, false);
         let t = pair_list::key_at(store, places, i, true);
         at = rebase_pair(s, t, from, to, i, at, bytes, slots);
-        i += 1;
     }
     at
 }
@@ -92,7 +85,7 @@ fn rebase_in(
     own: &mut [usize],
     out: &mut [u8],
     slots: &mut [usize],
-) -> map_function::MapReply
+) -> Result<map_function::MapFunction, Refusal>
     requires valid_list { ValidList (list_of store.now places.now map) }
     requires to_len_bound { length to.now ≤ 255 }
     requires scratch_room { ScratchRoom 766 map.count bytes.old own.old }
@@ -117,7 +110,7 @@ fn rebase_pairs(
     to: &[u8],
     out: &mut [u8],
     slots: &mut [usize],
-) -> map_function::MapReply
+) -> Result<map_function::MapFunction, Refusal>
     requires valid_list { ValidList (list_of store.now places.now map) }
     requires to_len_bound { length to.now ≤ 255 }
     ensures { ReturnsMap (rebased_map (map_of store.now places.now map) from.now
@@ -145,7 +138,7 @@ fn from_pair_identity(
     time: layer_offset::LayerOffset,
     out: &mut [u8],
     slots: &mut [usize],
-) -> map_function::MapReply
+) -> Result<map_function::MapFunction, Refusal>
     requires s_len_bound { length s.now ≤ 255 }
     requires t_len_bound { length t.now ≤ 255 }
     ensures { ReturnsMap (within_limits (pair s.now t.now ∷ [])
@@ -168,18 +161,15 @@ pub fn rebase_target(
     to: &[u8],
     out: &mut [u8],
     slots: &mut [usize],
-) -> map_function::MapReply
+) -> Result<map_function::MapFunction, Refusal>
     ensures { ReturnsMap (rebase_target_call store.now places.now map from.now
         to.now out.old slots.old) result out.old out.new
         slots.old slots.new }
 {
     let n = map.count;
     let mark = map.has_root_identity;
-    let q = validate::validate_call(store, places, n, from, to, from, to);
-    if let refusal::Validation::Refused(x) = q {
-        return map_function::MapReply::Refused(x);
-    }
-    if validate::both(n == 0, mark) {
+    validate::validate_call(store, places, n, from, to, from, to)?;
+    if n == 0 && mark {
         return from_pair_identity(from, to, map.time_offset, out, slots);
     }
     if !any_target(store, places, n, from) {

@@ -1,9 +1,9 @@
 -- One leg, out and home: a path that is translated maps back to where it came from, and a path that makes the plain round trip is
 -- translated.
+use Rattle.std.specs.Prelude.{Option, Some, None}
 use mathlib.Core.Path.{◌≡◌, refl}
 use mathlib.Core.Logic.{◌↔◌}
 use mathlib.Core.Bool.{Bool, true, false, not, cond, false≢true}
-use mathlib.Core.Option.{Option, none, some}
 use Prim.Native.Nat.{ℕ}
 use native.Mathlib.Omega.{arith}
 use borrow.Author.Tests.{eqb-true, eq-eqb}
@@ -35,24 +35,24 @@ unfolding matches
 prefix_matches p k n h = rw (n, h)
 
 -- The pair that maps p to q has a nonempty target.
-by_target : (m : Map) (a b : ℕ → Text) (p q : Text) (i : ℕ) → map_by m a b p (some i) ≡ some q → is_nil (map_target m i) ≡ false
+by_target : (m : Map) (a b : ℕ → Text) (p q : Text) (i : ℕ) → map_by m a b p (Some i) ≡ Some q → is_nil (map_target m i) ≡ false
 by_target m a b p q i e = go (is_nil (map_target m i)) e
   where
-    go : (t : Bool) → cond t none (replace_prefix p (a i) (b i)) ≡ some q → t ≡ false
+    go : (t : Bool) → cond t None (replace_prefix p (a i) (b i)) ≡ Some q → t ≡ false
     go true e = absurd (no_text e)
     go false e = refl
 
 -- The pair that maps p to q relates them, in the sense of `Rel`.
 by_rel : (m : Map) (a b : ℕ → Text) (p q : Text) (n i : ℕ) → ((k : ℕ) → is_end (a k) ≡ true) → ((k : ℕ) → is_end (b k) ≡ true)
-    → legal p ≡ true → has_variant_selection p ≡ false → IsLongest (matches p) a n i → map_by m a b p (some i) ≡ some q → legal q ≡ true → Rel (a i) (b i) p q
+    → legal p ≡ true → has_variant_selection p ≡ false → IsLongest (matches p) a n i → map_by m a b p (Some i) ≡ Some q → legal q ≡ true → Rel (a i) (b i) p q
 by_rel m a b p q n i ea eb lp f c e lq =
     replaced p (a i) (b i) q (matches_full p (a i) c.does_pass) (ea i) (eb i) lp f (rw (by_target m a b p q i e) at e) lq
 
 -- Without a pair, the mark yields the path, unchanged.
-by_mark_lem : (m : Map) (a b : ℕ → Text) (p q : Text) → map_by m a b p none ≡ some q → (m.mark ≡ true) × (q ≡ p)
+by_mark_lem : (m : Map) (a b : ℕ → Text) (p q : Text) → map_by m a b p None ≡ Some q → (m.mark ≡ true) × (q ≡ p)
 by_mark_lem m a b p q e = go m.mark refl e
   where
-    go : (t : Bool) → m.mark ≡ t → cond t (some p) none ≡ some q → (m.mark ≡ true) × (q ≡ p)
+    go : (t : Bool) → m.mark ≡ t → cond t (Some p) None ≡ Some q → (m.mark ≡ true) × (q ≡ p)
     go true h e = (h, cc)
     go false h e = absurd (no_text e)
 
@@ -64,45 +64,45 @@ module _ (m : Map) (p q : Text) (em : all_ends m.pairs ≡ true) (lp : legal p �
   et i = ends_target m.pairs em i
 
   -- The pair that maps p out relates p and q, and matches q on the way home.
-  out_rel : (i : ℕ) → IsLongest (matches p) (map_source m) (map_size m) i → map_by m (map_source m) (map_target m) p (some i) ≡ some q → Rel (map_source m i) (map_target m i) p q
+  out_rel : (i : ℕ) → IsLongest (matches p) (map_source m) (map_size m) i → map_by m (map_source m) (map_target m) p (Some i) ≡ Some q → Rel (map_source m i) (map_target m i) p q
   out_rel i f e = by_rel m (map_source m) (map_target m) p q (map_size m) i es et lp fp f e lq
 
-  out_matches : (i : ℕ) → IsLongest (matches p) (map_source m) (map_size m) i → map_by m (map_source m) (map_target m) p (some i) ≡ some q → matches q (map_target m i) ≡ true
+  out_matches : (i : ℕ) → IsLongest (matches p) (map_source m) (map_size m) i → map_by m (map_source m) (map_target m) p (Some i) ≡ Some q → matches q (map_target m i) ≡ true
   out_matches i f e = prefix_matches q (map_target m i) (by_target m (map_source m) (map_target m) p q i e) (back (swap (out_rel i f e)) (et i) (es i)).0
 
   -- That pair maps q back.
-  leg_back : (o o' : Option ℕ) → SaysLongest (matches p) (map_source m) (map_size m) o → map_by m (map_source m) (map_target m) p o ≡ some q → eq_index o o' ≡ true
-      → (map_by m (map_target m) (map_source m) q o' ≡ some p) × (has_variant_selection q ≡ false)
-  leg_back none none f e s =
+  leg_back : (o o' : Option ℕ) → SaysLongest (matches p) (map_source m) (map_size m) o → map_by m (map_source m) (map_target m) p o ≡ Some q → eq_index o o' ≡ true
+      → (map_by m (map_target m) (map_source m) q o' ≡ Some p) × (has_variant_selection q ≡ false)
+  leg_back None None f e s =
       let k = by_mark_lem m (map_source m) (map_target m) p q e in
       rw (k.0, k.1) (refl, fp)
-  leg_back none (some j) f e s = absurd (false≢true s)
-  leg_back (some i) none f e s = absurd (false≢true s)
-  leg_back (some i) (some j) f e s =
+  leg_back None (Some j) f e s = absurd (false≢true s)
+  leg_back (Some i) None f e s = absurd (false≢true s)
+  leg_back (Some i) (Some j) f e s =
       let r = out_rel i f e in
       rw (← (eqb-true i j s), by_target m (map_source m) (map_target m) p q i e) ((back (swap r) (et i) (es i)).1, still_free r (es i) (et i) fp)
 
   -- The pair that maps q home relates p and q too.
-  home_rel : (j : ℕ) → has_variant_selection q ≡ false → IsLongest (matches q) (map_target m) (map_size m) j → map_by m (map_target m) (map_source m) q (some j) ≡ some p
+  home_rel : (j : ℕ) → has_variant_selection q ≡ false → IsLongest (matches q) (map_target m) (map_size m) j → map_by m (map_target m) (map_source m) q (Some j) ≡ Some p
       → Rel (map_source m j) (map_target m j) p q
   home_rel j fq g h = swap (by_rel m (map_target m) (map_source m) q p (map_size m) j et es lq fq g h lp)
 
   module _ (full : no_empty_source m.pairs ≡ true) where
     -- If no source is empty, the pair that maps q home matches p on the way out.
-    home_matches : (j : ℕ) → has_variant_selection q ≡ false → IsLongest (matches q) (map_target m) (map_size m) j → map_by m (map_target m) (map_source m) q (some j) ≡ some p
+    home_matches : (j : ℕ) → has_variant_selection q ≡ false → IsLongest (matches q) (map_target m) (map_size m) j → map_by m (map_target m) (map_source m) q (Some j) ≡ Some p
         → matches p (map_source m j) ≡ true
     home_matches j fq g h =
         prefix_matches p (map_source m j) (full_source m.pairs full j g.in_range_lem) (back (home_rel j fq g h) (es j) (et j)).0
 
     -- So the two pairs are the same.
     leg_same : (o o' : Option ℕ) → SaysLongest (matches p) (map_source m) (map_size m) o → SaysLongest (matches q) (map_target m) (map_size m) o'
-        → map_by m (map_source m) (map_target m) p o ≡ some q → map_by m (map_target m) (map_source m) q o' ≡ some p → eq_index o o' ≡ true
-    leg_same none none f g e h = refl
-    leg_same none (some j) f g e h =
+        → map_by m (map_source m) (map_target m) p o ≡ Some q → map_by m (map_target m) (map_source m) q o' ≡ Some p → eq_index o o' ≡ true
+    leg_same None None f g e h = refl
+    leg_same None (Some j) f g e h =
         let k = by_mark_lem m (map_source m) (map_target m) p q e in
         absurd (f j g.in_range_lem (home_matches j (rw k.1 fp) g h))
-    leg_same (some i) none f g e h = absurd (g i f.in_range_lem (out_matches i f e))
-    leg_same (some i) (some j) f g e h =
+    leg_same (Some i) None f g e h = absurd (g i f.in_range_lem (out_matches i f e))
+    leg_same (Some i) (Some j) f g e h =
         let r = out_rel i f e in
         let fq = still_free r (es i) (et i) fp in
         let sp = home_matches j fq g h in
@@ -116,12 +116,12 @@ module _ (m : Map) (p q : Text) (em : all_ends m.pairs ≡ true) (lp : legal p �
         eq-eqb i j (omega arith)
 
 -- A path that passes the invertibility check was plainly mapped, and mapping it back selects the same pair.
-pub invertible_some : (m : Map) (i : Option ℕ) (o : Option Text) (q : Text) → require_invertible m i o ≡ some q → (o ≡ some q) × (eq_index i (match_target m q) ≡ true)
+pub invertible_some : (m : Map) (i : Option ℕ) (o : Option Text) (q : Text) → require_invertible m i o ≡ Some q → (o ≡ Some q) × (eq_index i (match_target m q) ≡ true)
 unfolding require_invertible
-invertible_some m i none q e = absurd (no_text e)
-invertible_some m i (some r) q e = go (eq_index i (match_target m r)) refl e
+invertible_some m i None q e = absurd (no_text e)
+invertible_some m i (Some r) q e = go (eq_index i (match_target m r)) refl e
   where
-    go : (b : Bool) → eq_index i (match_target m r) ≡ b → cond b (some r) none ≡ some q → (some r ≡ some q) × (eq_index i (match_target m q) ≡ true)
+    go : (b : Bool) → eq_index i (match_target m r) ≡ b → cond b (Some r) None ≡ Some q → (Some r ≡ Some q) × (eq_index i (match_target m q) ≡ true)
     go true h e = let z : r ≡ q = cc in (e, rw z at h)
     go false h e = absurd (no_text e)
 
@@ -131,10 +131,10 @@ module _ (m : Map) (em : all_ends m.pairs ≡ true) (p q : Text) (c : SelectionF
   unfolding translate_checked translate_to_target
   opened = rw (strip_same p c.is_plain)
 
-  kept : translate_checked m p ≡ path q → (require_invertible m (match_source m p) (map_source_to_target m p) ≡ some q) × (at_most255 q ≡ true) × (legal q ≡ true)
+  kept : translate_checked m p ≡ path q → (require_invertible m (match_source m p) (map_source_to_target m p) ≡ Some q) × (at_most255 q ≡ true) × (legal q ≡ true)
   kept e = checked_path (require_invertible m (match_source m p) (map_source_to_target m p)) q (rw opened at e)
 
-  returns : translate_checked m p ≡ path q → (map_target_to_source m q ≡ some p) × (has_variant_selection q ≡ false)
+  returns : translate_checked m p ≡ path q → (map_target_to_source m q ≡ Some p) × (has_variant_selection q ≡ false)
   unfolding map_source_to_target map_target_to_source match_source
   returns e =
       let k = kept e in

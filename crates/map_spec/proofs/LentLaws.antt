@@ -1,8 +1,8 @@
 -- Lemmas about a map in lent memory: the keys that the code reads are its ends.
+use Rattle.std.specs.Prelude.{Some}
 use mathlib.Core.Path.{◌≡◌}
 use mathlib.Core.Bool.{Bool, true, false}
 use mathlib.Core.List.{List}
-use mathlib.Core.Option.{some}
 use Prim.Native.Nat.{ℕ, ◌≤◌, ◌<◌}
 use lib.ListN.{length}
 use Rattle.text.specs.Text.{Text}
@@ -36,7 +36,7 @@ module _ (store : Text) (places : List ℕ) (n : ℕ) (mark : Bool) (p : Text) w
   unfolding match_target
   home_keys = chosen_by (map_target lent) (key true) (pairs_in_target store places n)
 
-  pub ends_by : (invert : Bool) (i : ℕ) → longest_match p (key invert) n ≡ some i → (map_source lent i ≡ key false i) × (map_target lent i ≡ key true i)
+  pub ends_by : (invert : Bool) (i : ℕ) → longest_match p (key invert) n ≡ Some i → (map_source lent i ≡ key false i) × (map_target lent i ≡ key true i)
   unfolding longest_match
   ends_by invert i e =
       let h : i < n = (chosen_best (matches p) (key invert) n i e).in_range_lem in

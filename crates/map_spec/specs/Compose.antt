@@ -1,7 +1,7 @@
 -- Meaning: The composition of two maps. It composes pairs, not functions, so the result may differ from applying one map after the other. OpenUSD:
 -- PcpMapFunction::Compose.
-use Rattle.std.specs.Prelude.{Bool, true, false, cond, ◌&&◌, ◌||◌, List, [], ◌∷◌, ◌++◌, map}
-use Rattle.std.proofs.Math.Option.{Option, none, some, get_or}
+use Rattle.std.specs.Option.{unwrap_or}
+use Rattle.std.specs.Prelude.{Bool, true, false, cond, ◌&&◌, ◌||◌, List, [], ◌∷◌, ◌++◌, map, Option, Some, None}
 use Rattle.text.specs.Text.{Text, is_nil, equal}
 use Rattle.pair_list.specs.Pair.{Pair}
 use Rattle.map_spec.specs.Map.{Map, map_source_to_target, map_target_to_source}
@@ -11,7 +11,7 @@ use Rattle.map_spec.specs.New.{from_parts}
 -- unmappable instead of falling back to a shorter pair. Requirements: "a None target becomes an empty one".
 unfoldable pub composed_pair : Map → Pair → Pair
 unfolding map_source_to_target
-composed_pair outer x = record { source = x.source; target = cond (is_nil x.target) [] (get_or (map_source_to_target outer x.target) []) }
+composed_pair outer x = record { source = x.source; target = cond (is_nil x.target) [] (unwrap_or (map_source_to_target outer x.target) []) }
 
 -- Some pair has the source s.
 unfoldable pub has_source : List Pair → Text → Bool
@@ -22,8 +22,8 @@ has_source (x ∷ xs) s = equal x.source s || has_source xs s
 -- The list with the pair of s and t appended, if there is an s and no pair has that source yet.
 unfoldable pub add_if_new_source : List Pair → Text → Option Text → List Pair
 unfolding has_source
-add_if_new_source l t none = l
-add_if_new_source l t (some s) = cond (has_source l s) l (l ++ record { source = s; target = t } ∷ [])
+add_if_new_source l t None = l
+add_if_new_source l t (Some s) = cond (has_source l s) l (l ++ record { source = s; target = t } ∷ [])
 
 -- The list with the outer pairs appended, each with its source mapped back through the inner map; a pair whose source does not map back, or
 -- maps to a source already in the list, is left out.

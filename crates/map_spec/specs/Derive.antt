@@ -1,6 +1,6 @@
 -- Meaning: Maps derived from other maps.
-use Rattle.std.specs.Prelude.{ℕ, Bool, true, false, cond, ◌||◌, List, [], ◌∷◌, map}
-use Rattle.std.proofs.Math.Option.{Option, none, some, get_or}
+use Rattle.std.specs.Option.{unwrap_or}
+use Rattle.std.specs.Prelude.{ℕ, Bool, true, false, cond, ◌||◌, List, [], ◌∷◌, map, Option, Some, None}
 use Rattle.text.specs.Text.{Text, equal}
 use Rattle.path_prefix.specs.Prefix.{has_prefix}
 use Rattle.path_join.specs.Join.{replace_prefix}
@@ -38,7 +38,7 @@ with_root_identity m = record { pairs = m.pairs; mark = true }
 -- The pair with the prefix `from` of its target replaced by `to`; unchanged if the target does not have that prefix.
 abbrev pub rebased_pair : Text → Text → Pair → Pair
 unfolding replace_prefix
-rebased_pair from to x = record { source = x.source; target = get_or (replace_prefix x.target from to) x.target }
+rebased_pair from to x = record { source = x.source; target = unwrap_or (replace_prefix x.target from to) x.target }
 
 -- Some target has the prefix `from`.
 unfoldable pub any_target_below : Text → List Pair → Bool
@@ -63,9 +63,9 @@ deepened_pair node above below x = cond (equal x.source above) (record { source 
 -- the default `[]` is never used.
 abbrev pub deepen_by : Map → Text → Option ℕ → Map
 unfolding deepened_pair replace_prefix from_parts
-deepen_by m node none = m
-deepen_by m node (some i) =
-    from_parts (map (λ (x : Pair). deepened_pair node (map_source m i) (get_or (replace_prefix node (map_source m i) (map_target m i)) []) x) m.pairs) m.mark
+deepen_by m node None = m
+deepen_by m node (Some i) =
+    from_parts (map (λ (x : Pair). deepened_pair node (map_source m i) (unwrap_or (replace_prefix node (map_source m i) (map_target m i)) []) x) m.pairs) m.mark
 
 -- The map deepened to a path without its selections, the node (Rust: deepen_to). The class pair is the one whose source is a prefix of the
 -- node and has most elements, the later on a tie; an empty source counts here. If some pair has the node as its source, the map is

@@ -1,6 +1,5 @@
 -- Meaning: A map as one leg of a route: its outcomes out and home, and the terms of the round-trip requirement (demand 3).
-use Rattle.std.specs.Prelude.{◌≡◌, true, false}
-use Rattle.std.proofs.Math.Option.{some}
+use Rattle.std.specs.Prelude.{◌≡◌, true, false, Some}
 use Rattle.text.specs.Text.{Text}
 use Rattle.path_grammar.specs.Own.{has_variant_selection}
 use Rattle.path_grammar.specs.Legal.{legal, at_most255}
@@ -27,7 +26,7 @@ pub record SelectionFreePath (p : Text) : Type 0 where
 -- mapping backwards takes q to p. Requirements: "Plain mapping is `map_source_to_target`; plainly back is `map_target_to_source`, whose
 -- keys are the targets."
 pub record PlainRoundTrip (m : Map) (p q : Text) : Type 0 where
-  pub out : map_source_to_target m p ≡ some q
+  pub out : map_source_to_target m p ≡ Some q
   pub is_legal : legal q ≡ true
   pub is_short : at_most255 q ≡ true
-  pub back : map_target_to_source m q ≡ some p
+  pub back : map_target_to_source m q ≡ Some p

@@ -1,7 +1,6 @@
 -- Meaning: Path maps. Requirements: "A map is a list of pairs, a root-identity mark and a time offset." The time offset does not affect where a path
 -- is mapped, so it is kept apart. OpenUSD: PcpMapFunction.
-use Rattle.std.specs.Prelude.{ℕ, Bool, true, false, cond, List, eqb, length}
-use Rattle.std.proofs.Math.Option.{Option, none, some}
+use Rattle.std.specs.Prelude.{ℕ, Bool, true, false, cond, List, eqb, length, Option, Some, None}
 use Rattle.text.specs.Text.{Text, is_nil}
 use Rattle.path_join.specs.Join.{replace_prefix}
 use Rattle.path_parts.specs.Strip.{strip}
@@ -45,8 +44,8 @@ match_target m q = longest_match q (map_target m) (map_size m)
 -- The path p mapped by the selected pair, from the ends a to the ends b. A pair with an empty target is a block: it makes the paths below
 -- its source unmappable. Requirements: "an empty target gives no path. With no pair, the mark returns the path itself."
 abbrev pub map_by : Map → (ℕ → Text) → (ℕ → Text) → Text → Option ℕ → Option Text
-map_by m a b p none = cond m.mark (some p) none
-map_by m a b p (some i) = cond (is_nil (map_target m i)) none (replace_prefix p (a i) (b i))
+map_by m a b p None = cond m.mark (Some p) None
+map_by m a b p (Some i) = cond (is_nil (map_target m i)) None (replace_prefix p (a i) (b i))
 
 -- Plain mapping (Rust: map_source_to_target). Requirements: "Plain mapping is `map_source_to_target`".
 unfoldable pub map_source_to_target : Map → Text → Option Text
@@ -60,16 +59,16 @@ map_target_to_source m q = map_by m (map_target m) (map_source m) q (match_targe
 
 -- The two selected pairs are the same, or no pair is selected in either case.
 abbrev pub eq_index : Option ℕ → Option ℕ → Bool
-eq_index none none = true
-eq_index none (some j) = false
-eq_index (some i) none = false
-eq_index (some i) (some j) = eqb i j
+eq_index None None = true
+eq_index None (Some j) = false
+eq_index (Some i) None = false
+eq_index (Some i) (Some j) = eqb i j
 
 -- The invertibility check: mapping the result q backwards must select the same pair i, or no pair if none was used.
 unfoldable pub require_invertible : Map → Option ℕ → Option Text → Option Text
 unfolding match_target
-require_invertible m i none = none
-require_invertible m i (some q) = cond (eq_index i (match_target m q)) (some q) none
+require_invertible m i None = None
+require_invertible m i (Some q) = cond (eq_index i (match_target m q)) (Some q) None
 
 -- Translation (Rust: translate_to_target). Requirements: "`translate_to_target` strips selections, maps, then gives no path if plain
 -- mapping backwards would take another pair for the result, or any pair where none was used." OpenUSD: PcpTranslatePathFromNodeToRoot.

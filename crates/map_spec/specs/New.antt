@@ -1,7 +1,6 @@
 -- Meaning: Building a map from pairs, in canonical form: root pairs become the mark, and redundant pairs are dropped. OpenUSD:
 -- PcpMapFunction::Create.
-use Rattle.std.specs.Prelude.{ℕ, Bool, true, false, cond, ◌&&◌, ◌||◌, List, [], ◌∷◌, ◌++◌, leb}
-use Rattle.std.proofs.Math.Option.{Option, none, some}
+use Rattle.std.specs.Prelude.{ℕ, Bool, true, false, cond, ◌&&◌, ◌||◌, List, [], ◌∷◌, ◌++◌, leb, Option, Some, None}
 use Rattle.text.specs.Text.{Text, equal}
 use Rattle.path_grammar.specs.Legal.{is_root}
 use Rattle.path_prefix.specs.Elements.{count_elements, element_count}
@@ -38,8 +37,8 @@ sort_by_source (x ∷ xs) = insert_sorted x (sort_by_source xs)
 -- The text p mapped textually by the selected pair. Requirements: "`map_via` joins text, so `/A`→empty takes `/A/B` to `/B` there."
 unfoldable pub map_via_pair : Map → Text → Option ℕ → Option Text
 unfolding replace_prefix
-map_via_pair m p none = cond m.mark (some p) none
-map_via_pair m p (some i) = replace_prefix p (map_source m i) (map_target m i)
+map_via_pair m p None = cond m.mark (Some p) None
+map_via_pair m p (Some i) = replace_prefix p (map_source m i) (map_target m i)
 
 -- The text p mapped textually by the pairs and the mark, to find redundant pairs (Rust: map_via).
 unfoldable pub map_via : Map → Text → Option Text
@@ -49,8 +48,8 @@ map_via m p = map_via_pair m p (match_source m p)
 -- The option holds the text t.
 unfoldable pub is_some_text : Option Text → Text → Bool
 unfolding equal
-is_some_text none t = false
-is_some_text (some q) t = equal q t
+is_some_text None t = false
+is_some_text (Some q) t = equal q t
 
 -- The pair x is redundant beside the map m of the kept pairs. Requirements: "a pair is dropped when the kept ones carry its source to its
 -- target textually".

@@ -1,16 +1,14 @@
 -- Lemmas for the branches of `copy_out`, `map_into`, `translate_into` and `translate_stripped`.
+use Rattle.std.specs.Prelude.{Result, Ok, Err, Option, Some, None, ⊤}
 use mathlib.Core.Path.{◌≡◌, refl, sym, ap, ◌∙◌}
 use mathlib.Core.Bool.{Bool, true, false, not, cond, ◌&&◌}
-use mathlib.Core.Option.{Option, none, some}
 use Prim.Native.Nat.{ℕ, ◌≤◌}
 use native.Mathlib.Omega.{arith}
 use lib.ListN.{length, take, drop, length-append}
 use lib.Seq.{length-take-le}
 use lib.Dec.{leb}
 use borrow.Author.Tests.{leb-true}
-use Rattle.text.specs.Text.{Text, is_nil, written_if_fits}
-use Rattle.text.specs.declared.Fit.{Fit}
-use Rattle.text.specs.declared.Fit.TheVariants.{Written as WrittenFit}
+use Rattle.text.specs.Text.{Text, is_nil}
 use Rattle.text.proofs.BoolLaws.{known_false, known_true}
 use Rattle.text.proofs.WriteLaws.{placed_first, read_back}
 use Rattle.path_grammar.specs.Legal.{at_most255}
@@ -20,12 +18,7 @@ use Rattle.path_parts.specs.Strip.{strip, strip_fit, strip_buffer}
 use Rattle.path_parts.proofs.StripLaws.{strip_same, strip_back}
 use Rattle.refusal.specs.declared.Refusal.{Refusal}
 use Rattle.refusal.specs.declared.Refusal.TheVariants.{NoRoom, NoPath, MadeTooLong, MadeIllegal}
-use Rattle.refusal.specs.declared.Validation.{Validation}
-use Rattle.refusal.specs.declared.Validation.TheVariants.{Passed, Refused as RefusedValidation}
-use Rattle.refusal.specs.declared.Reply.{Reply}
-use Rattle.refusal.specs.declared.Reply.TheVariants.{Written}
 use Rattle.refusal.specs.Outcome.{Outcome, path, refused, outcome_reply, outcome_buffer, require_room, after_checks}
-use Rattle.path_rest.specs.declared.Rest.TheVariants.{Nothing}
 use Rattle.map_rest.specs.MapRest.{source_rest, translated_rest}
 use Rattle.map_spec.specs.Map.{Map, map_source, map_target, match_source, match_target, eq_index}
 use Rattle.map_apply.specs.Fast.{join_checked, keep_path, map_fast_by, map_fast, is_none, translate_by_mark, translate_by_pair, translate_fast_by, translate_fast}
@@ -60,8 +53,8 @@ short_keeping mark p = short_cond mark (cond (at_most255 p) (path p) (refused Ma
 
 short_by : (mark : Bool) (a b t : ℕ → Text) (p : Text) (o : Option ℕ) → Short (map_fast_by mark a b t p o)
 unfolding map_fast_by
-short_by mark a b t p none = short_keeping mark p
-short_by mark a b t p (some i) =
+short_by mark a b t p None = short_keeping mark p
+short_by mark a b t p (Some i) =
     short_cond (is_nil (t i)) (refused NoPath) (join_checked (a i) (b i) (drop (length (a i)) p)) (short_refused NoPath) (short_joining (a i) (b i) (drop (length (a i)) p))
 
 pub short_fast : (invert : Bool) (m : Map) (p : Text) → Short (map_fast invert m p)
@@ -72,8 +65,8 @@ short_fast true m p = short_by m.mark (map_target m) (map_source m) (map_target 
 short_pair : (m : Map) (i : ℕ) (s t r : Text) → Short (translate_by_pair m i s t r)
 unfolding translate_by_pair
 short_pair m i s t r =
-    short_cond (leb (length (join s t r)) 512) (cond (eq_index (some i) (match_target m (join s t r))) (join_checked s t r) (refused NoPath)) (refused MadeTooLong)
-    (short_cond (eq_index (some i) (match_target m (join s t r))) (join_checked s t r) (refused NoPath) (short_joining s t r) (short_refused NoPath))
+    short_cond (leb (length (join s t r)) 512) (cond (eq_index (Some i) (match_target m (join s t r))) (join_checked s t r) (refused NoPath)) (refused MadeTooLong)
+    (short_cond (eq_index (Some i) (match_target m (join s t r))) (join_checked s t r) (refused NoPath) (short_joining s t r) (short_refused NoPath))
     (short_refused MadeTooLong)
 
 pub short_translate : (m : Map) (p : Text) → Short (translate_fast m p)
@@ -81,28 +74,24 @@ unfolding translate_fast translate_fast_by translate_by_mark
 short_translate m p = go (match_source m p)
   where
     go : (o : Option ℕ) → Short (translate_fast_by m p o)
-    go none = short_cond (m.mark && is_none (match_target m p)) (keep_path true p) (refused NoPath) (short_keeping true p) (short_refused NoPath)
-    go (some i) =
+    go None = short_cond (m.mark && is_none (match_target m p)) (keep_path true p) (refused NoPath) (short_keeping true p) (short_refused NoPath)
+    go (Some i) =
         short_cond (is_nil (map_target m i)) (refused NoPath) (translate_by_pair m i (map_source m i) (map_target m i) (drop (length (map_source m i)) p)) (short_refused NoPath)
         (short_pair m i (map_source m i) (map_target m i) (drop (length (map_source m i)) p))
 
 -- The path of a call has at most 255 bytes if that holds once validation has passed.
-pub short_answered : (a : Validation) (room : ℕ) (o : Outcome) → (a ≡ Passed → Short o) → Short (after_checks a room o)
+pub short_answered : (a : Result ⊤ Refusal) (room : ℕ) (o : Outcome) → (a ≡ Ok tt → Short o) → Short (after_checks a room o)
 unfolding after_checks require_room
-short_answered Passed room o h = short_cond (leb 255 room) o (refused NoRoom) (h refl) (short_refused NoRoom)
-short_answered (RefusedValidation x) room o h = short_refused x
+short_answered (Ok tt) room o h = short_cond (leb 255 room) o (refused NoRoom) (h refl) (short_refused NoRoom)
+short_answered (Err x) room o h = short_refused x
 
 -- Lemmas for `copy_out`.
-module _ (r : Reply) (made : Text) (p : reply_within r (length made)) (n : ℕ) (e : r ≡ Written n) where
+module _ (r : Result ℕ Refusal) (made : Text) (p : reply_within r (length made)) (n : ℕ) (e : r ≡ Ok n) where
   pub copy_part : n ≡ length (take n made)
   copy_part = sym (length-take-le n made (rw e at p))
 
-pub copy_written : (r : Reply) (made out : Text) (n : ℕ) → r ≡ Written n → (out' : Text) → out' ≡ written_if_fits 0 (take n made) out
-    → (Written n ≡ r) × (out' ≡ copied_out r made out)
-copy_written r made out n e out' m = (sym e, rw e m)
-
 -- The path of an outcome that was written to a scratch buffer of 255 bytes is copied to the lent buffer as the outcome states.
-module _ (o : Outcome) (r : Reply) (buf made : Text) (h : r ≡ outcome_reply o) (m : made ≡ outcome_buffer o buf) where
+module _ (o : Outcome) (r : Result ℕ Refusal) (buf made : Text) (h : r ≡ outcome_reply o) (m : made ≡ outcome_buffer o buf) where
   room : (o : Outcome) → reply_within (outcome_reply o) (length (outcome_buffer o buf))
   unfolding outcome_reply outcome_buffer
   room (path q) = simp length-append (omega arith)
@@ -116,7 +105,7 @@ module _ (o : Outcome) (r : Reply) (buf made : Text) (h : r ≡ outcome_reply o)
   pub made_within : reply_within r (length made)
   made_within = rw (h, m) (room o)
 
-  pub made_out : (a : Reply) (out out' : Text) → 255 ≤ length out → Short o → (a ≡ r) × (out' ≡ copied_out r made out) → (a ≡ outcome_reply o) × (out' ≡ outcome_buffer o out)
+  pub made_out : (a : Result ℕ Refusal) (out out' : Text) → 255 ≤ length out → Short o → (a ≡ r) × (out' ≡ copied_out r made out) → (a ≡ outcome_reply o) × (out' ≡ outcome_buffer o out)
   made_out a out out' l s w = (w.0 ∙ h, w.1 ∙ rw (h, m) (goes out o l s))
 
 -- Lemmas for `translate_stripped`.
@@ -129,10 +118,10 @@ module _ (m : Map) (p : Text) (b : Bool) (h : b ≡ has_variant_selection p) whe
   unfolding translated_rest
   translated_rest_plain k = rw (known_false h k)
 
-  pub translated_rest_stripped : not b ≡ false → translated_rest m p ≡ Nothing
+  pub translated_rest_stripped : not b ≡ false → translated_rest m p ≡ None
   unfolding translated_rest
   translated_rest_stripped k = rw (known_true h k)
 
-pub translate_back : (p buf : Text) (f : Fit) → length p ≤ length buf → f ≡ strip_fit p buf → (k : ℕ) → f ≡ WrittenFit k → (mem : Text) → mem ≡ strip_buffer p buf → (o : Map)
+pub translate_back : (p buf : Text) (f : Option ℕ) → length p ≤ length buf → f ≡ strip_fit p buf → (k : ℕ) → f ≡ Some k → (mem : Text) → mem ≡ strip_buffer p buf → (o : Map)
     → translate_fast o (strip p) ≡ translate_fast o (take k mem)
 translate_back p buf f s h k e mem m o = ap (translate_fast o) (sym (strip_back p buf f s h k e mem m))

@@ -1,4 +1,5 @@
 -- The calls that map a path, as the code performs them.
+use Rattle.std.specs.Prelude.{Result, Ok, ⊤}
 use mathlib.Core.Path.{◌≡◌, sym}
 use mathlib.Core.Bool.{true, false}
 use mathlib.Core.List.{List, [], ◌∷◌}
@@ -9,8 +10,6 @@ use Rattle.text.specs.Text.{Text}
 use Rattle.path_grammar.specs.Legal.{legal}
 use Rattle.path_parts.specs.Strip.{strip}
 use Rattle.path_parts.proofs.StripLaws.{strip_shorter, strip_legal}
-use Rattle.refusal.specs.declared.Validation.{Validation}
-use Rattle.refusal.specs.declared.Validation.TheVariants.{Passed}
 use Rattle.refusal.specs.Outcome.{checked_option}
 use Rattle.refusal.proofs.CallBranches.{answered_same}
 use Rattle.pair_list.specs.Pair.{all_short, all_ends}
@@ -22,6 +21,7 @@ use Rattle.map_apply.proofs.FastLaws.{fast_out, fast_home, fast_translated}
 use Rattle.map_function.specs.declared.MapFunction.{MapFunction}
 use Rattle.map_function.specs.MapFunction.{list_of, map_of}
 use Rattle.mapping.specs.Calls.{mapping_call, map_source_to_target_call, map_target_to_source_call, translate_to_target_call}
+use Rattle.refusal.specs.declared.Refusal.{Refusal}
 
 module _ (store : Text) (places : List ℕ) (f : MapFunction) (p : Text) (room : ℕ) where
   abbrev m : Map
@@ -30,11 +30,11 @@ module _ (store : Text) (places : List ℕ) (f : MapFunction) (p : Text) (room :
   abbrev l : LentList
   l = list_of store places f
 
-  abbrev questions : Validation
+  abbrev questions : Result ⊤ Refusal
   questions = validate_call (l ∷ []) (p ∷ []) []
 
   -- A call whose validation passed has a legal path of at most 255 bytes, and ends.
-  module _ (e : questions ≡ Passed) where
+  module _ (e : questions ≡ Ok tt) where
     is_short : length p ≤ 255
     is_short = text_short (l ∷ []) p [] [] e
 

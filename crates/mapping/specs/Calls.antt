@@ -1,11 +1,10 @@
 -- Meaning: The calls that map a path through a map in lent memory: validation in the order of the questions, then the result.
-use Rattle.std.specs.Prelude.{ℕ, List, [], ◌∷◌}
+use Rattle.std.specs.Prelude.{ℕ, List, [], ◌∷◌, Option}
 use Rattle.text.specs.Text.{Text}
 use Rattle.refusal.specs.Outcome.{Outcome, after_checks, checked_option}
 use Rattle.validate.specs.Validate.{validate_call}
 use Rattle.map_function.specs.declared.MapFunction.{MapFunction}
 use Rattle.map_function.specs.MapFunction.{list_of, map_of}
-use Rattle.path_rest.specs.declared.Rest.{Rest}
 use Rattle.map_spec.specs.Map.{Map, map_source_to_target, map_target_to_source, translate_to_target}
 use Rattle.map_rest.specs.MapRest.{source_rest, target_rest, translated_rest}
 use Rattle.mapping.specs.declared.Direction.{Direction}
@@ -38,7 +37,7 @@ direction_call Home store places f p room = map_target_to_source_call store plac
 direction_call Translated store places f p room = translate_to_target_call store places f p room
 
 -- The rest that this call tells beside its reply.
-unfoldable pub direction_rest : Direction → Map → Text → Rest
+unfoldable pub direction_rest : Direction → Map → Text → Option ℕ
 unfolding source_rest target_rest translated_rest
 direction_rest Out m p = source_rest m p
 direction_rest Home m p = target_rest m p

@@ -16,6 +16,8 @@ ghost use Rattle.mapping.specs.CopyOut.{reply_within, copied_out};
 ghost use Rattle.mapping.specs.Calls.{map_source_to_target_call, map_target_to_source_call, translate_to_target_call, direction_call, direction_rest};
 ghost use Rattle.mapping.specs.Direction.{map_fast_in, after_list_validated};
 
+use refusal::Refusal;
+
 // How a path is mapped.
 #[derive(Clone, Copy)]
 pub enum Direction {
@@ -28,17 +30,13 @@ pub enum Direction {
 }
 
 // Copies a path from the scratch buffer to the lent buffer; a refusal writes nothing.
-fn copy_out(r: refusal::Reply, made: &[u8; 255], out: &mut [u8]) -> refusal::Reply
-    requires { reply_within r (length made.now) }
-    ensures value { result ≡ r }
-    ensures out_after { out.new ≡ copied_out r made.now out.old }
+fn copy_out(reply: Result<usize, Refusal>, made: &[u8; 255], out: &mut [u8])
+    requires { reply_within reply (length made.now) }
+    ensures { out.new ≡ copied_out reply made.now out.old }
 {
-    let refusal::Reply::Written(n) = r else {
-        return r;
-    };
-    let whole = &made[..];
-    text::write_at(&whole[..n], 0, out);
-    r
+    if let Ok(n) = reply {
+        text::write_at(&made[..n], 0, out);
+    }
 }
 
 // Plain mapping into the lent buffer.
@@ -50,7 +48,7 @@ fn map_into(
     invert: bool,
     path: &[u8],
     out: &mut [u8],
-) -> path_rest::Carried
+) -> Result<(usize, Option<usize>), Refusal>
     requires { 255 ≤ length out.old }
     ensures { let m = lent_map store.now places.now n mark in
         ReturnsCarried (map_fast invert m path.now) (plain_rest invert m path.now) result
@@ -70,7 +68,7 @@ fn translate_into(
     mark: bool,
     path: &[u8],
     out: &mut [u8],
-) -> path_rest::Carried
+) -> Result<(usize, Option<usize>), Refusal>
     requires { 255 ≤ length out.old }
     ensures { let m = lent_map store.now places.now n mark in
         ReturnsCarried (translate_fast m path.now) (source_rest m path.now) result
@@ -91,7 +89,7 @@ fn translate_stripped(
     mark: bool,
     path: &[u8],
     out: &mut [u8],
-) -> path_rest::Carried
+) -> Result<(usize, Option<usize>), Refusal>
     requires { (length path.now ≤ 255) × (255 ≤ length out.old) }
     ensures { let m = lent_map store.now places.now n mark in
         ReturnsCarried (translate_fast m (strip path.now)) (translated_rest m path.now) result
@@ -101,15 +99,13 @@ fn translate_stripped(
         return translate_into(store, places, n, mark, path, out);
     }
     let mut plain = [0u8; 255];
-    let fit = path_parts::strip_into(path, &mut plain);
-    let text::Fit::Written(k) = fit else {
-        return path_rest::Carried::Refused(refusal::Refusal::MadeTooLong);
-    };
+    let k = path_parts::strip_into(path, &mut plain).ok_or(Refusal::MadeTooLong)?;
     let c = translate_into(store, places, n, mark, &plain[..k], out);
-    path_rest::with_rest(path_rest::reply_of(c), path_rest::Rest::Nothing)
+    path_rest::with_rest(path_rest::reply_of(c), None)
 }
 
 // Maps the path into the lent buffer in one of the three ways.
+#[tactic(auto, unfolding(crate::specs::Direction::map_fast_in, crate::specs::Calls::direction_rest, map_apply::specs::Fast::plain_rest))]
 fn map_in_direction(
     store: &[u8],
     places: &[usize],
@@ -118,7 +114,7 @@ fn map_in_direction(
     direction: Direction,
     path: &[u8],
     out: &mut [u8],
-) -> path_rest::Carried
+) -> Result<(usize, Option<usize>), Refusal>
     requires { (length path.now ≤ 255) × (255 ≤ length out.old) }
     ensures { let m = lent_map store.now places.now n mark in
         ReturnsCarried (map_fast_in direction m path.now) (direction_rest direction m path.now) result
@@ -134,14 +130,14 @@ fn map_in_direction(
 // One of the three calls with the rest, given the result `list` of validating the list; only the path is
 // validated here. So a list can be validated once for many paths.
 fn map_after_list_carried(
-    list: refusal::Validation,
+    list: Result<(), Refusal>,
     store: &[u8],
     places: &[usize],
     map: map_function::MapFunction,
     direction: Direction,
     path: &[u8],
     out: &mut [u8],
-) -> path_rest::Carried
+) -> Result<(usize, Option<usize>), Refusal>
     ensures { ReturnsCarried (after_list_validated list direction store.now places.now map
         path.now (length out.old)) (direction_rest direction
         (map_of store.now places.now map) path.now) result out.old
@@ -149,26 +145,24 @@ fn map_after_list_carried(
 {
     let count = map.count;
     let mark = map.has_root_identity;
-    let q = validate::first_refusal(list, path::new(path));
-    if let refusal::Validation::Refused(x) = q {
-        return path_rest::Carried::Refused(x);
-    }
+    validate::first_refusal(list, path::new(path))?;
     if out.len() < 255 {
-        return path_rest::Carried::Refused(refusal::Refusal::NoRoom);
+        return Err(Refusal::NoRoom);
     }
     map_in_direction(store, places, count, mark, direction, path, out)
 }
 
 // One of the three calls, given the result `list` of validating the list.
+#[tactic(auto, using(path_rest::proofs::CarriedLaws::reply_with))]
 pub fn map_after_list(
-    list: refusal::Validation,
+    list: Result<(), Refusal>,
     store: &[u8],
     places: &[usize],
     map: map_function::MapFunction,
     direction: Direction,
     path: &[u8],
     out: &mut [u8],
-) -> refusal::Reply
+) -> Result<usize, Refusal>
     ensures { ReturnsPath (after_list_validated list direction store.now places.now map
         path.now (length out.old)) result out.old out.new }
 {
@@ -183,7 +177,7 @@ fn call(
     direction: Direction,
     path: &[u8],
     out: &mut [u8],
-) -> path_rest::Carried
+) -> Result<(usize, Option<usize>), Refusal>
     ensures { ReturnsCarried (direction_call direction store.now places.now map
         path.now (length out.old)) (direction_rest direction
         (map_of store.now places.now map) path.now) result out.old
@@ -194,13 +188,14 @@ fn call(
 }
 
 // Maps the path from the source to the target namespace by plain mapping.
+#[tactic(auto, using(path_rest::proofs::CarriedLaws::reply_with), unfolding(crate::specs::Calls::direction_call))]
 pub fn map_source_to_target(
     store: &[u8],
     places: &[usize],
     map: map_function::MapFunction,
     path: &[u8],
     out: &mut [u8],
-) -> refusal::Reply
+) -> Result<usize, Refusal>
     ensures { ReturnsPath (map_source_to_target_call store.now places.now map
         path.now (length out.old)) result out.old out.new }
 {
@@ -208,13 +203,14 @@ pub fn map_source_to_target(
 }
 
 // Maps the path from the target back to the source namespace by plain mapping.
+#[tactic(auto, using(path_rest::proofs::CarriedLaws::reply_with), unfolding(crate::specs::Calls::direction_call))]
 pub fn map_target_to_source(
     store: &[u8],
     places: &[usize],
     map: map_function::MapFunction,
     path: &[u8],
     out: &mut [u8],
-) -> refusal::Reply
+) -> Result<usize, Refusal>
     ensures { ReturnsPath (map_target_to_source_call store.now places.now map
         path.now (length out.old)) result out.old out.new }
 {
@@ -223,13 +219,14 @@ pub fn map_target_to_source(
 
 // Translates the path, without its selections, to the target namespace; no path if mapping the result
 // backwards would select another pair.
+#[tactic(auto, using(path_rest::proofs::CarriedLaws::reply_with), unfolding(crate::specs::Calls::direction_call))]
 pub fn translate_to_target(
     store: &[u8],
     places: &[usize],
     map: map_function::MapFunction,
     path: &[u8],
     out: &mut [u8],
-) -> refusal::Reply
+) -> Result<usize, Refusal>
     ensures { ReturnsPath (translate_to_target_call store.now places.now map
         path.now (length out.old)) result out.old out.new }
 {
@@ -237,13 +234,14 @@ pub fn translate_to_target(
 }
 
 // Like `map_source_to_target`, with the rest of the path.
+#[tactic(auto, unfolding(crate::specs::Calls::direction_call, crate::specs::Calls::direction_rest))]
 pub fn map_source_to_target_carried(
     store: &[u8],
     places: &[usize],
     map: map_function::MapFunction,
     path: &[u8],
     out: &mut [u8],
-) -> path_rest::Carried
+) -> Result<(usize, Option<usize>), Refusal>
     ensures { ReturnsCarried (map_source_to_target_call store.now places.now map
         path.now (length out.old)) (source_rest (map_of store.now places.now map)
         path.now) result out.old out.new }
@@ -252,13 +250,14 @@ pub fn map_source_to_target_carried(
 }
 
 // Like `map_target_to_source`, with the rest of the path.
+#[tactic(auto, unfolding(crate::specs::Calls::direction_call, crate::specs::Calls::direction_rest))]
 pub fn map_target_to_source_carried(
     store: &[u8],
     places: &[usize],
     map: map_function::MapFunction,
     path: &[u8],
     out: &mut [u8],
-) -> path_rest::Carried
+) -> Result<(usize, Option<usize>), Refusal>
     ensures { ReturnsCarried (map_target_to_source_call store.now places.now map
         path.now (length out.old)) (target_rest (map_of store.now places.now map)
         path.now) result out.old out.new }
@@ -267,13 +266,14 @@ pub fn map_target_to_source_carried(
 }
 
 // Like `translate_to_target`, with the rest of the path; there is none if selections were stripped.
+#[tactic(auto, unfolding(crate::specs::Calls::direction_call, crate::specs::Calls::direction_rest))]
 pub fn translate_to_target_carried(
     store: &[u8],
     places: &[usize],
     map: map_function::MapFunction,
     path: &[u8],
     out: &mut [u8],
-) -> path_rest::Carried
+) -> Result<(usize, Option<usize>), Refusal>
     ensures { ReturnsCarried (translate_to_target_call store.now places.now map
         path.now (length out.old)) (translated_rest (map_of store.now places.now map)
         path.now) result out.old out.new }

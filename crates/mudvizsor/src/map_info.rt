@@ -1,33 +1,32 @@
 // The C interface of the functions on a map's header: its number of pairs, its mark, and the two floats of
 // its time
 // offset. They are lent no list, and write no bytes and no places.
-ghost use Rattle.std.specs.Prelude.{◌≡◌};
+ghost use Rattle.std.specs.Prelude.{◌≡◌, Ok};
 ghost use Rattle.layer_offset.specs.Offset.{layer_offset, identity_offset};
 ghost use Rattle.map_spec.specs.New.{identity_map, null_map};
 ghost use Rattle.map_function.specs.MapOutcome.{map_function};
 ghost use Rattle.map_function.specs.MapFunction.{is_null, path_is_identity, is_identity_map};
-ghost use Rattle.map_function.specs.declared.MapReply.TheVariants.{Made};
 ghost use Rattle.ffi_values.specs.Time.{offset_numbers};
 ghost use Rattle.ffi_values.specs.MapCode.{map_from_numbers, map_code, map_time, with_time_offset_call};
 
 // Returns the identity map.
 #[unsafe(no_mangle)]
 pub extern "C" fn mudvizsor_map_identity(time: &mut [f64; 2]) -> usize
-    ensures value { result ≡ map_code (Made (map_function identity_map identity_offset)) }
-    ensures time_after { time.new ≡ map_time (Made (map_function identity_map identity_offset)) time.old }
+    ensures value { result ≡ map_code (Ok (map_function identity_map identity_offset)) }
+    ensures time_after { time.new ≡ map_time (Ok (map_function identity_map identity_offset)) time.old }
 {
     let map = map_function::MapFunction::identity();
-    ffi_values::map_code(map_function::MapReply::Made(map), time)
+    ffi_values::map_code(Ok(map), time)
 }
 
 // Returns the null map, which maps nothing.
 #[unsafe(no_mangle)]
 pub extern "C" fn mudvizsor_map_null(time: &mut [f64; 2]) -> usize
-    ensures value { result ≡ map_code (Made (map_function null_map identity_offset)) }
-    ensures time_after { time.new ≡ map_time (Made (map_function null_map identity_offset)) time.old }
+    ensures value { result ≡ map_code (Ok (map_function null_map identity_offset)) }
+    ensures time_after { time.new ≡ map_time (Ok (map_function null_map identity_offset)) time.old }
 {
     let map = map_function::MapFunction::null();
-    ffi_values::map_code(map_function::MapReply::Made(map), time)
+    ffi_values::map_code(Ok(map), time)
 }
 
 // Returns whether the map maps nothing.

@@ -1,11 +1,10 @@
 -- Meaning: The invariant of the open list's buffers: its pairs are packed from the beginning. Adding a pair preserves it (proofs/OpenListLaws.antt),
 -- so the pairs read by their places are the pairs of the list.
-use Rattle.std.specs.Prelude.{◌≡◌, ℕ, List, [], ◌∷◌, ◌++◌, length}
+use Rattle.std.specs.Prelude.{◌≡◌, ℕ, List, [], ◌∷◌, ◌++◌, length, Ok}
 use Rattle.text.specs.Text.{Text}
 use Rattle.pair_list.specs.Pair.{Pair, pair}
 use Rattle.pair_list.specs.Places.{pairs_in}
 use Rattle.pair_list_write.specs.Packed.{HoldsList}
-use Rattle.refusal.specs.declared.Validation.TheVariants.{Passed}
 use Rattle.open_list.specs.declared.OpenList.{OpenList}
 use Rattle.open_list.specs.Add.{validate_add, with_one_more, add_bytes, add_places}
 
@@ -19,5 +18,5 @@ pub record OpenListLaws : Type 0 where
   pub reads : (l : List Pair) (k : OpenList) (bytes : Text) (places : List ℕ) → HoldsOpenList l k bytes places → pairs_in bytes places k.pairs ≡ l
   -- An added pair is appended to the list.
   pub grows : (l : List Pair) (k : OpenList) (bytes : Text) (places : List ℕ) (s t : Text) → HoldsOpenList l k bytes places
-      → validate_add k s t (length bytes) (length places) ≡ Passed
-      → HoldsOpenList (l ++ pair s t ∷ []) (with_one_more k s t) (add_bytes Passed k s t bytes) (add_places Passed k s t places)
+      → validate_add k s t (length bytes) (length places) ≡ Ok tt
+      → HoldsOpenList (l ++ pair s t ∷ []) (with_one_more k s t) (add_bytes (Ok tt) k s t bytes) (add_places (Ok tt) k s t places)

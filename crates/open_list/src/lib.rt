@@ -5,6 +5,8 @@
 ghost use Rattle.std.specs.Prelude.{◌≡◌, length};
 ghost use Rattle.open_list.specs.Add.{validate_add, add_reply, add_bytes, add_places, AddFits};
 
+use refusal::Refusal;
+
 // The size of the open list: its number of pairs, and the bytes of their ends.
 #[derive(Clone, Copy)]
 pub struct OpenList {
@@ -12,41 +14,31 @@ pub struct OpenList {
     pub bytes: usize,
 }
 
-// The reply of adding a pair: the new size of the list, or the refusal.
-#[derive(Clone, Copy)]
-pub enum Added {
-    Done(OpenList),
-    Refused(refusal::Refusal),
-}
-
 // Validates a pair to be added (questions 1 to 5).
-fn validate_add(k: OpenList, s: &[u8], t: &[u8], room: usize, slots: usize) -> refusal::Validation
+fn validate_add(k: OpenList, s: &[u8], t: &[u8], room: usize, slots: usize) -> Result<(), Refusal>
     ensures value { result ≡ validate_add k s.now t.now room slots }
     ensures add_fits { AddFits result k (length s.now) (length t.now) room slots }
 {
     let pairs = k.pairs;
     let bytes = k.bytes;
-    let q = validate::validate_ends(s, t);
-    if let refusal::Validation::Refused(x) = q {
-        return refusal::Validation::Refused(x);
-    }
+    validate::validate_ends(s, t)?;
     if 64 <= pairs {
-        return refusal::Validation::Refused(refusal::Refusal::TooMany);
+        return Err(Refusal::TooMany);
     }
     if slots / 4 <= pairs {
-        return refusal::Validation::Refused(refusal::Refusal::TooMany);
+        return Err(Refusal::TooMany);
     }
     if room < bytes {
-        return refusal::Validation::Refused(refusal::Refusal::NoRoom);
+        return Err(Refusal::NoRoom);
     }
     let left = room - bytes;
     if left < s.len() {
-        return refusal::Validation::Refused(refusal::Refusal::NoRoom);
+        return Err(Refusal::NoRoom);
     }
     if left - s.len() < t.len() {
-        return refusal::Validation::Refused(refusal::Refusal::NoRoom);
+        return Err(Refusal::NoRoom);
     }
-    refusal::Validation::Passed
+    Ok(())
 }
 
 // Appends a pair to the open list.
@@ -56,7 +48,7 @@ pub fn add_pair(
     target: &[u8],
     bytes: &mut [u8],
     places: &mut [usize],
-) -> Added
+) -> Result<OpenList, Refusal>
     ensures value { result ≡ add_reply (validate_add k source.now target.now
         (length bytes.old) (length places.old)) k source.now target.now }
     ensures bytes_after { bytes.new ≡ add_bytes
@@ -66,12 +58,9 @@ pub fn add_pair(
         (validate_add k source.now target.now (length bytes.old)
         (length places.old)) k source.now target.now places.old }
 {
-    let q = validate_add(k, source, target, bytes.len(), places.len());
-    if let refusal::Validation::Refused(x) = q {
-        return Added::Refused(x);
-    }
+    validate_add(k, source, target, bytes.len(), places.len())?;
     let end = pair_list_write::push_pair(source, target, k.pairs, k.bytes, bytes, places);
-    Added::Done(OpenList {
+    Ok(OpenList {
         pairs: k.pairs + 1,
         bytes: end,
     })

@@ -1,17 +1,16 @@
 -- Lemmas about the branches of `replace_into`, `from_ends_given` and `from_ends`.
-use mathlib.Core.Path.{◌≡◌, refl, sym, ap, ◌∙◌}
-use mathlib.Core.Bool.{Bool, true, false, not, cond, ◌&&◌}
+use Rattle.std.specs.Prelude.{Option}
+use Rattle.std.specs.Option.{unwrap_or}
+use mathlib.Core.Path.{◌≡◌, refl, ap, ◌∙◌}
+use mathlib.Core.Bool.{Bool, true, false, not, cond}
 use mathlib.Core.List.{List}
-use mathlib.Core.Option.{Option, get_or}
 use Prim.Native.Nat.{ℕ, ◌*◌, ◌-◌, ◌/◌, ◌≤◌, ◌<◌}
 use native.Mathlib.Nat.{zero-add}
 use lib.Dec.{leb}
 use lib.ListN.{length, take, drop}
 use borrow.Author.Tests.{le-leb, lt-leb}
 use Rattle.text.specs.Text.{Text, written_if_fits, fit_of}
-use Rattle.text.specs.declared.Fit.{Fit}
-use Rattle.text.specs.declared.Fit.TheVariants.{Written, Over}
-use Rattle.text.proofs.BoolLaws.{and_l, and_r, and_no, told, known_true, known_false}
+use Rattle.text.proofs.BoolLaws.{and_no, told, known_true, known_false}
 use Rattle.text.proofs.WriteLaws.{rest_whole}
 use Rattle.path_grammar.specs.Legal.{legal}
 use Rattle.path_prefix.specs.Prefix.{has_prefix}
@@ -38,7 +37,7 @@ module _ (p s t : Text) (b : Bool) (h : b ≡ has_prefix p s) (out : Text) where
 
   module _ (k : not b ≡ true) where
     stays : replaced_or_same p s t ≡ p
-    stays = ap (λ (o : Option Text). get_or o p) (replace_other p s t (known_false h k))
+    stays = ap (λ (o : Option Text). unwrap_or o p) (replace_other p s t (known_false h k))
 
     pub replace_long : length out < length p → Replaced 0 out
     unfolding fit_of written_if_fits
@@ -53,18 +52,12 @@ module _ (p s t : Text) (b : Bool) (h : b ≡ has_prefix p s) (out : Text) where
     replace_start = prefix_long p s (known_true h k)
 
     replaced_is : replaced_or_same p s t ≡ join s t (drop (length s) p)
-    replaced_is = ap (λ (o : Option Text). get_or o p) (replace_prefix_lem p s t (known_true h k))
+    replaced_is = ap (λ (o : Option Text). unwrap_or o p) (replace_prefix_lem p s t (known_true h k))
 
-    module _ (f : Fit) (out' : Text)
+    module _ (f : Option ℕ) (out' : Text)
         (w : (f ≡ fit_of (join s t (take (length p - length s) (drop (length s) p))) out) × (out' ≡ written_if_fits 0 (join s t (take (length p - length s) (drop (length s) p))) out)) where
-      join_is : Replaced (written_length f) out'
-      join_is = rw (replaced_is, ← rest_whole p (length s)) (ap (λ (x : Fit). written_length x) w.0, w.1)
-
-      pub replace_made : (n : ℕ) → f ≡ Written n → Replaced n out'
-      replace_made n g = rw g at join_is
-
-      pub replace_over : f ≡ Over → Replaced 0 out'
-      replace_over g = rw g at join_is
+      pub replace_made : (n : ℕ) → n ≡ unwrap_or f 0 → Replaced n out'
+      replace_made n g = rw (g, replaced_is, ← rest_whole p (length s)) (ap (λ (x : Option ℕ). written_length x) w.0, w.1)
 
 -- `from_ends_given`: question 8 has the answer `yes`.
 module _ (store : Text) (places : List ℕ) (n : ℕ) (yes mark : Bool) (time : LayerOffset) (out : Text) (slots : List ℕ) where
@@ -89,12 +82,10 @@ module _ (store : Text) (places : List ℕ) (n : ℕ) (yes mark : Bool) (time : 
   unfolding count_in_slice
   given_beyond h = rw (lt-leb n (length places / 4) h) refl
 
-  module _ (few : n ≤ 64) (there : n ≤ length places / 4) (b : Bool) (h : b ≡ all_short list) (c : Bool) (e : c ≡ (b && yes)) where
-    pub given_parts : c ≡ true → call ≡ count_in_slice (lent_list store places n) (from_parts_outcome list mark time out slots)
+  module _ (few : n ≤ 64) (there : n ≤ length places / 4) (b : Bool) (h : b ≡ all_short list) where
+    pub given_parts : b ≡ true → yes ≡ true → call ≡ count_in_slice (lent_list store places n) (from_parts_outcome list mark time out slots)
     unfolding from_ends_given require_short from_parts_outcome
-    given_parts k =
-        let z : (b && yes) ≡ true = sym e ∙ k in
-        rw (and_r b yes z, told h (and_l b yes z))
+    given_parts k l = rw (told h k, l)
 
     given_room : list_fits_buffers list out slots ≡ false → call ≡ refused NoRoom
     unfolding from_ends_given require_list_room
@@ -116,11 +107,9 @@ module _ (store : Text) (places : List ℕ) (n : ℕ) (yes mark : Bool) (time : 
             held_all store places n made there
             ∙ rw (pairs_in_length store places n, le-leb n 64 few, known_true i k, le-leb n (length slots / 4) l)
 
-        pub given_illegal : c ≡ false → b ≡ true → call ≡ refused MadeIllegal
+        pub given_illegal : b ≡ true → yes ≡ false → call ≡ refused MadeIllegal
         unfolding require_short
-        given_illegal f g =
-            let z : yes ≡ false = sym (sym f ∙ e ∙ rw g refl) in
-            roomy ∙ rw (told h g, z)
+        given_illegal g z = roomy ∙ rw (told h g, z)
 
         pub given_long : b ≡ false → call ≡ refused MadeTooLong
         unfolding require_short

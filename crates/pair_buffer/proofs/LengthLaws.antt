@@ -1,8 +1,9 @@
 -- Lemmas about the lengths of ends and of the texts made from them.
+use Rattle.std.specs.Prelude.{Option}
+use Rattle.std.specs.Option.{unwrap_or}
 use mathlib.Core.Path.{◌≡◌, refl, ap}
 use mathlib.Core.Bool.{Bool, true, false, ◌&&◌}
 use mathlib.Core.List.{List, [], ◌∷◌, ◌++◌}
-use mathlib.Core.Option.{Option, get_or}
 use Prim.Native.Nat.{ℕ, zero, suc, ◌+◌, ◌≤◌, ◌<◌}
 use native.Mathlib.Omega.{arith}
 use lib.ListN.{length, take, drop, length-append}
@@ -56,10 +57,10 @@ replaced_short p s t lp lt = go (has_prefix p s) refl
     go true h =
         omega (
           arith,
-          ap (λ (o : Option Text). length (get_or o p)) (replace_prefix_lem p s t h),
+          ap (λ (o : Option Text). length (unwrap_or o p)) (replace_prefix_lem p s t h),
           join_within p s t (drop (length s) p) (prefix_rest p s h).0,
         )
-    go false h = omega (arith, ap (λ (o : Option Text). length (get_or o p)) (replace_other p s t h))
+    go false h = omega (arith, ap (λ (o : Option Text). length (unwrap_or o p)) (replace_other p s t h))
 
 -- A text written to a buffer that it fits in: the amount written is its length, and the text is read back.
 pub placed_back : (q out : Text) (k : ℕ) (out' : Text) → (k ≡ written_length (fit_of q out)) × (out' ≡ written_if_fits 0 q out) → length q ≤ length out → (k ≡ length q) × (take k out' ≡ q)

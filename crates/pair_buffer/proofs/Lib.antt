@@ -6,3 +6,4 @@ mod ShortBranches
 pub mod LengthLaws
 pub mod MapLaws
 mod EndBranches
+pub mod RangeLaws

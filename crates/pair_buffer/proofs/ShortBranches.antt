@@ -1,14 +1,11 @@
 -- Lemmas about the branches of `all_at_most` and `all_short`.
+use Rattle.std.specs.Bool.{MatchBool}
 use mathlib.Core.Path.{◌≡◌, refl, sym, ◌∙◌}
 use mathlib.Core.Bool.{Bool, true, false, ◌&&◌}
 use mathlib.Core.List.{List}
-use Prim.Native.Nat.{ℕ, zero, suc, ◌+◌, ◌*◌, ◌≤◌, ◌<◌}
+use Prim.Native.Nat.{ℕ, zero, suc, ◌+◌, ◌*◌, ◌<◌}
 use native.Mathlib.Omega.{arith}
 use native.Mathlib.Decide.{ℕ_discrete}
-use native.Mathlib.Numerals.{add-one}
-use lib.Dec.{leb}
-use lib.ListN.{length}
-use borrow.Author.Tests.{le-leb, lt-leb}
 use Rattle.text.specs.Text.{Text}
 use Rattle.text.proofs.BoolLaws.{and_no, and_assoc}
 use Rattle.path_grammar.specs.Legal.{at_most255}
@@ -37,26 +34,18 @@ module _ (k : ℕ) (store : Text) (places : List ℕ) where
         | no d ↦ short_next n ∙ rw (one_too_long n i (omega arith) e)
       ]
 
-  pub short_begin : short 0 ≡ true
+  none_too_long : (n : ℕ) → ((i : ℕ) → i < n → (at_most k (key_at store places false i) && at_most k (key_at store places true i)) ≡ true) → short n ≡ true
   unfolding pairs_in every_end
-  short_begin = refl
+  none_too_long zero f = refl
+  none_too_long (suc n) f = short_next n ∙ rw (none_too_long n (λ i h. f i (omega arith)), f n (omega arith))
 
-  module _ (n i : ℕ) (h : i < n) (s : Text) (e : s ≡ key_at store places false i) where
-    pub short_source : k < length s → false ≡ short n
-    short_source l = sym (one_too_long n i h (rw (lt-leb (length (key_at store places false i)) k (rw e at l))))
-
-    module _ (t : Text) (f : t ≡ key_at store places true i) where
-      pub short_target : k < length t → false ≡ short n
-      short_target l = sym (one_too_long n i h (rw (lt-leb (length (key_at store places true i)) k (rw f at l)) (and_no (leb (length (key_at store places false i)) k))))
-
-      pub short_on : length s ≤ k → length t ≤ k → short i ≡ true → short (i + 1) ≡ true
-      short_on g l a =
-          rw (add-one i) (short_next i ∙ rw (a, le-leb (length (key_at store places false i)) k (rw e at g), le-leb (length (key_at store places true i)) k (rw f at l)))
-
-  pub short_end : (n i : ℕ) → n ≤ i → i ≤ n → short i ≡ true → true ≡ short n
-  short_end n i l m e = let z : n ≡ i = omega arith in rw z (sym e)
-
-pub ruleset shorts = (short_begin, short_source, short_target, short_on, short_end)
+  -- What the test of the first n pairs answers.
+  pub short_in : (n : ℕ) (r : Bool)
+      → MatchBool r ((i : ℕ) → i < n → (at_most k (key_at store places false i) && at_most k (key_at store places true i)) ≡ true)
+      ((i : ℕ) × (i < n) × ((at_most k (key_at store places false i) && at_most k (key_at store places true i)) ≡ false))
+      → r ≡ short n
+  short_in n true w = sym (none_too_long n w)
+  short_in n false w = sym (one_too_long n w.0 w.1 w.2)
 
 -- `all_short`
 pub short_all : (r : Bool) (l : List Pair) → r ≡ every_end (at_most 255) l → r ≡ all_short l

@@ -1,13 +1,13 @@
 -- Lemmas about the branches of `has_source`.
+use Rattle.std.specs.Bool.{MatchBool}
 use mathlib.Core.Path.{◌≡◌, refl, sym, ◌∙◌}
 use mathlib.Core.Bool.{Bool, true, false, ◌||◌}
 use mathlib.Core.List.{List, [], ◌∷◌, ◌++◌}
-use Prim.Native.Nat.{ℕ, zero, suc, ◌+◌, ◌*◌, ◌≤◌, ◌<◌}
+use Prim.Native.Nat.{ℕ, zero, suc, ◌+◌, ◌*◌, ◌<◌}
 use native.Mathlib.Omega.{arith}
 use native.Mathlib.Decide.{ℕ_discrete}
-use native.Mathlib.Numerals.{add-one}
 use Rattle.text.specs.Text.{Text, equal}
-use Rattle.text.proofs.BoolLaws.{or_right, or_false, told}
+use Rattle.text.proofs.BoolLaws.{or_right, or_false}
 use Rattle.pair_list.specs.Pair.{Pair}
 use Rattle.pair_list.specs.Places.{key_at, pair_in, pairs_in}
 use Rattle.map_spec.specs.Compose.{has_source}
@@ -37,18 +37,14 @@ module _ (store : Text) (places : List ℕ) (s : Text) where
         | no d ↦ source_next n ∙ rw (grown n i (omega arith) e)
       ]
 
-  pub source_begin : has_source (pairs_in store places 0) s ≡ false
+  unseen : (n : ℕ) → ((k : ℕ) → k < n → equal (key_at store places false k) s ≡ false) → has_source (pairs_in store places n) s ≡ false
   unfolding pairs_in has_source
-  source_begin = refl
+  unseen zero f = refl
+  unseen (suc n) f = source_next n ∙ rw (unseen n (λ k h. f k (omega arith)), f n (omega arith))
 
-  module _ (i : ℕ) (k : Text) (e : k ≡ key_at store places false i) (b : Bool) (h : b ≡ equal k s) where
-    pub source_found : (n : ℕ) → i < n → b ≡ true → true ≡ has_source (pairs_in store places n) s
-    source_found n l t = sym (grown n i l (rw e at (told h t)))
-
-    pub source_on : b ≡ false → has_source (pairs_in store places i) s ≡ false → has_source (pairs_in store places (i + 1)) s ≡ false
-    source_on f g = rw (add-one i) (source_next i ∙ rw g (rw e at (told h f)))
-
-  pub source_end : (n i : ℕ) → n ≤ i → i ≤ n → has_source (pairs_in store places i) s ≡ false → false ≡ has_source (pairs_in store places n) s
-  source_end n i l m e = let z : n ≡ i = omega arith in rw z (sym e)
-
-pub ruleset sources = (source_begin, source_found, source_on, source_end)
+  -- What a search through the first n pairs answers.
+  pub source_in : (n : ℕ) (r : Bool)
+      → MatchBool r ((k : ℕ) × (k < n) × (equal (key_at store places false k) s ≡ true)) ((k : ℕ) → k < n → equal (key_at store places false k) s ≡ false)
+      → r ≡ has_source (pairs_in store places n) s
+  source_in n true w = sym (grown n w.0 w.1 w.2)
+  source_in n false w = sym (unseen n w)

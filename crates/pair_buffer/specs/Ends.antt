@@ -1,9 +1,7 @@
 -- Meaning: Ends that a call has constructed, and the validation of a list of them.
-use Rattle.std.specs.Prelude.{Bool, cond, List, ℕ, leb, length}
-use Rattle.std.proofs.Math.Option.{get_or}
+use Rattle.std.specs.Option.{unwrap_or}
+use Rattle.std.specs.Prelude.{Bool, cond, List, ℕ, leb, length, Option}
 use Rattle.text.specs.Text.{Text}
-use Rattle.text.specs.declared.Fit.{Fit}
-use Rattle.text.specs.declared.Fit.TheVariants.{Written, Over}
 use Rattle.path_grammar.specs.Legal.{legal}
 use Rattle.path_join.specs.Join.{replace_prefix}
 use Rattle.layer_offset.specs.declared.LayerOffset.{LayerOffset}
@@ -18,12 +16,11 @@ at_most k t = leb (length t) k
 
 -- The path p with its prefix s replaced by t; p itself if it does not have that prefix.
 abbrev pub replaced_or_same : Text → Text → Text → Text
-replaced_or_same p s t = get_or (replace_prefix p s t) p
+replaced_or_same p s t = unwrap_or (replace_prefix p s t) p
 
 -- The number of bytes written; 0 if the buffer was too short.
-abbrev pub written_length : Fit → ℕ
-written_length (Written n) = n
-written_length Over = 0
+abbrev pub written_length : Option ℕ → ℕ
+written_length n = unwrap_or n 0
 
 -- Question 7: "Is every path made at most 255 bytes?"
 unfoldable pub require_short : List Pair → MapOutcome → MapOutcome

@@ -10,6 +10,8 @@ ghost use Rattle.map_spec.specs.Compose.{has_source};
 ghost use Rattle.map_function.specs.MapOutcome.{ReturnsMap, count_in_slice};
 ghost use Rattle.pair_buffer.specs.Ends.{at_most, replaced_or_same, written_length, from_ends_given, from_ends};
 
+use refusal::Refusal;
+
 // Writes the path with its prefix replaced, or the path itself if it does not have that prefix, and returns
 // its length; writes nothing and returns 0 if it does not fit.
 pub fn replace_into(path: &[u8], old: &[u8], new: &[u8], out: &mut [u8]) -> usize
@@ -26,45 +28,28 @@ pub fn replace_into(path: &[u8], old: &[u8], new: &[u8], out: &mut [u8]) -> usiz
         return path.len();
     }
     let k = old.len();
-    let fit = path_join::join(old, new, &path[k..], out);
-    match fit {
-        text::Fit::Written(n) => n,
-        text::Fit::Over => 0,
-    }
+    path_join::join(old, new, &path[k..], out).unwrap_or(0)
 }
 
 // Returns whether one of the first n pairs has this source.
 pub fn has_source(store: &[u8], places: &[usize], n: usize, source: &[u8]) -> bool
     ensures { result ≡ has_source (pairs_in store.now places.now n) source.now }
 {
-    let mut i = 0;
-    while i < n {
-        if text::is_equal(pair_list::key_at(store, places, i, false), source) {
-            return true;
-        }
-        i += 1;
-    }
-    false
+    (0..n).any(|i| text::is_equal(pair_list::key_at(store, places, i, false), source))
 }
 
 // Returns whether every end of the first n pairs has at most `most` bytes.
 pub fn all_at_most(store: &[u8], places: &[usize], n: usize, most: usize) -> bool
     ensures { result ≡ every_end (at_most most) (pairs_in store.now places.now n) }
 {
-    let mut i = 0;
-    while i < n {
-        if most < pair_list::key_at(store, places, i, false).len() {
-            return false;
-        }
-        if most < pair_list::key_at(store, places, i, true).len() {
-            return false;
-        }
-        i += 1;
-    }
-    true
+    (0..n).all(|i| {
+        pair_list::key_at(store, places, i, false).len() <= most
+            && pair_list::key_at(store, places, i, true).len() <= most
+    })
 }
 
 // Checks question 7 for the first n pairs: every end has at most 255 bytes.
+#[tactic(auto, using(crate::proofs::ShortBranches::short_all))]
 pub fn all_short(store: &[u8], places: &[usize], n: usize) -> bool
     ensures { result ≡ all_short (pairs_in store.now places.now n) }
 {
@@ -82,31 +67,31 @@ pub fn from_ends_given(
     time: layer_offset::LayerOffset,
     out: &mut [u8],
     slots: &mut [usize],
-) -> map_function::MapReply
+) -> Result<map_function::MapFunction, Refusal>
     ensures { ReturnsMap (count_in_slice (lent_list store.now places.now n)
         (from_ends_given legal (pairs_in store.now places.now n) mark time out.old
         slots.old)) result out.old out.new slots.old slots.new }
 {
     if 64 < n {
-        return map_function::MapReply::Refused(refusal::Refusal::TooMany);
+        return Err(Refusal::TooMany);
     }
     if places.len() / 4 < n {
-        return map_function::MapReply::Refused(refusal::Refusal::TooMany);
+        return Err(Refusal::TooMany);
     }
     let short = all_short(store, places, n);
-    if validate::both(short, legal) {
+    if short && legal {
         return map_function::from_parts(store, places, n, mark, time, out, slots);
     }
     if slots.len() / 4 < n {
-        return map_function::MapReply::Refused(refusal::Refusal::NoRoom);
+        return Err(Refusal::NoRoom);
     }
     if !pair_list_write::list_fits(store, places, n, out.len()) {
-        return map_function::MapReply::Refused(refusal::Refusal::NoRoom);
+        return Err(Refusal::NoRoom);
     }
     if short {
-        return map_function::MapReply::Refused(refusal::Refusal::MadeIllegal);
+        return Err(Refusal::MadeIllegal);
     }
-    map_function::MapReply::Refused(refusal::Refusal::MadeTooLong)
+    Err(Refusal::MadeTooLong)
 }
 
 // Like `from_ends_given`, with question 8 answered for the pairs.
@@ -118,13 +103,13 @@ pub fn from_ends(
     time: layer_offset::LayerOffset,
     out: &mut [u8],
     slots: &mut [usize],
-) -> map_function::MapReply
+) -> Result<map_function::MapFunction, Refusal>
     ensures { ReturnsMap (count_in_slice (lent_list store.now places.now n)
         (from_ends (pairs_in store.now places.now n) mark time out.old
         slots.old)) result out.old out.new slots.old slots.new }
 {
     if 64 < n {
-        return map_function::MapReply::Refused(refusal::Refusal::TooMany);
+        return Err(Refusal::TooMany);
     }
     let legal = pair_list::all_legal(store, places, 2 * n);
     from_ends_given(store, places, n, legal, mark, time, out, slots)

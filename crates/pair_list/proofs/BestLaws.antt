@@ -1,7 +1,8 @@
 -- Laws about the best index: what the result states, when it stays the same, and the search that finds it step by step.
+use Rattle.std.specs.Prelude.{Option, Some, None}
+use Rattle.std.specs.Option.{option_map}
 use mathlib.Core.Path.{◌≡◌, refl, sym, ap, ◌∙◌}
 use mathlib.Core.Bool.{Bool, true, false, not, cond, ◌&&◌, false≢true}
-use mathlib.Core.Option.{Option, none, some, map}
 use Prim.Native.Nat.{ℕ, zero, suc, ◌+◌, ◌≤◌, ◌<◌}
 use native.Mathlib.Numerals.{add-one}
 use native.Mathlib.Omega.{arith}
@@ -21,8 +22,8 @@ pub record Best (passes : ℕ → Bool) (weight : ℕ → ℕ) (n i : ℕ) : Typ
 
 -- What a result states about the indices below n: none passes, or this one is the best.
 abbrev pub Says : (ℕ → Bool) → (ℕ → ℕ) → ℕ → Option ℕ → Type 0
-Says passes weight n none = (k : ℕ) → k < n → passes k ≡ true → ⊥
-Says passes weight n (some i) = Best passes weight n i
+Says passes weight n None = (k : ℕ) → k < n → passes k ≡ true → ⊥
+Says passes weight n (Some i) = Best passes weight n i
 
 up_to : (P : ℕ → Type 0) (n : ℕ) → ((k : ℕ) → k < n → P k) → P n → (k : ℕ) → k < suc n → P k
 up_to P n f z k h = elim (ℕ_discrete k n) [ yes e ↦ rw e z | no d ↦ f k (omega arith) ]
@@ -48,17 +49,17 @@ module _ (passes : ℕ → Bool) (weight : ℕ → ℕ) where
       comes : passes n ≡ true → ((k : ℕ) → k < n → AtMost n k) → Best passes weight (suc n) n
       comes h f = record { in_range_lem = omega arith; does_pass = h; most = up_to (AtMost n) n f (λ s. omega arith); last = λ k l s m. omega arith }
 
-      compared : (i : ℕ) → Best passes weight n i → passes n ≡ true → (c : Bool) → leb (weight i) (weight n) ≡ c → Says passes weight (suc n) (cond c (some n) (some i))
+      compared : (i : ℕ) → Best passes weight n i → passes n ≡ true → (c : Bool) → leb (weight i) (weight n) ≡ c → Says passes weight (suc n) (cond c (Some n) (Some i))
       compared i f h true c = comes h (λ k l s. omega (arith, f.most k l s, leb-true))
       compared i f h false c = stays i f (λ s. leb-false _ _ c)
 
-      go : (o : Option ℕ) → Says passes weight n o → (b : Bool) → passes n ≡ b → Says passes weight (suc n) (cond (b && not_lighter weight o n) (some n) o)
-      go none f true h = comes h (λ k l s. absurd (f k l s))
-      go none f false h = up_to (λ k. passes k ≡ true → ⊥) n f (λ s. false≢true (sym h ∙ s))
-      go (some i) f true h = compared i f h (leb (weight i) (weight n)) refl
-      go (some i) f false h = stays i f (λ s. absurd (false≢true (sym h ∙ s)))
+      go : (o : Option ℕ) → Says passes weight n o → (b : Bool) → passes n ≡ b → Says passes weight (suc n) (cond (b && not_lighter weight o n) (Some n) o)
+      go None f true h = comes h (λ k l s. absurd (f k l s))
+      go None f false h = up_to (λ k. passes k ≡ true → ⊥) n f (λ s. false≢true (sym h ∙ s))
+      go (Some i) f true h = compared i f h (leb (weight i) (weight n)) refl
+      go (Some i) f false h = stays i f (λ s. absurd (false≢true (sym h ∙ s)))
 
-  pub best_chosen : (n i : ℕ) → best_index passes weight n ≡ some i → Best passes weight n i
+  pub best_chosen : (n i : ℕ) → best_index passes weight n ≡ Some i → Best passes weight n i
   best_chosen n i e = rw e at (says n)
 
   -- Indices that do not pass have no effect.
@@ -73,8 +74,8 @@ module _ (passes : ℕ → Bool) (weight : ℕ → ℕ) where
 -- Two tests and two weights that agree below n select the same index.
 module _ (passes passes' : ℕ → Bool) (weight weight' : ℕ → ℕ) where
   agree_on : (n : ℕ) (o : Option ℕ) → best_index passes' weight' n ≡ o → ((i : ℕ) → i < suc n → weight i ≡ weight' i) → not_lighter weight o n ≡ not_lighter weight' o n
-  agree_on n none e same = refl
-  agree_on n (some i) e same =
+  agree_on n None e same = refl
+  agree_on n (Some i) e same =
       let h : i < suc n = omega (arith, (best_chosen passes' weight' n i e).in_range_lem) in
       rw (same i h, same n (omega arith))
 
@@ -90,19 +91,19 @@ module _ (passes : ℕ → Bool) (weight : ℕ → ℕ) where
   -- The step of a search: let `keep` be the form in which it keeps the index selected so far. If it keeps index n exactly if n passes and is
   -- not lighter, then it keeps the best of the first n + 1 indices after the best of the first n.
   pub keep_step : {S : Type 0} (keep : Option ℕ → S) (n : ℕ)
-      → cond (passes n && not_lighter weight (best_index passes weight n) n) (keep (some n)) (keep (best_index passes weight n)) ≡ keep (best_index passes weight (suc n))
+      → cond (passes n && not_lighter weight (best_index passes weight n) n) (keep (Some n)) (keep (best_index passes weight n)) ≡ keep (best_index passes weight (suc n))
   unfolding best_index
   keep_step {S} keep n = go (passes n && not_lighter weight (best_index passes weight n) n)
     where
-      go : (c : Bool) → cond c (keep (some n)) (keep (best_index passes weight n)) ≡ keep (cond c (some n) (best_index passes weight n))
+      go : (c : Bool) → cond c (keep (Some n)) (keep (best_index passes weight n)) ≡ keep (cond c (Some n) (best_index passes weight n))
       go true = refl
       go false = refl
 
   -- A search that keeps the index and its weight.
   abbrev weighed : Option ℕ → Option (ℕ × ℕ)
-  weighed o = map (λ (i : ℕ). (i, weight i)) o
+  weighed o = option_map (λ (i : ℕ). (i, weight i)) o
 
-  pub search_none : none ≡ best_below passes weight 0
+  pub search_none : None ≡ best_below passes weight 0
   unfolding best_below
   search_none = refl
 
@@ -110,9 +111,9 @@ module _ (passes : ℕ → Bool) (weight : ℕ → ℕ) where
   unfolding consider_index best_below
   search_step n = go (best_index passes weight n) ∙ keep_step weighed n
     where
-      go : (o : Option ℕ) → cond (passes n && at_least_best (weighed o) (weight n)) (some (n, weight n)) (weighed o) ≡ cond (passes n && not_lighter weight o n) (some (n, weight n)) (weighed o)
-      go none = refl
-      go (some i) = refl
+      go : (o : Option ℕ) → cond (passes n && at_least_best (weighed o) (weight n)) (Some (n, weight n)) (weighed o) ≡ cond (passes n && not_lighter weight o n) (Some (n, weight n)) (weighed o)
+      go None = refl
+      go (Some i) = refl
 
   pub search_on : (i : ℕ) (b b' : Option (ℕ × ℕ)) (t : Bool) (w : ℕ) → b ≡ best_below passes weight i → t ≡ passes i → w ≡ weight i → b' ≡ consider_index b t i w
       → b' ≡ best_below passes weight (i + 1)
@@ -123,8 +124,8 @@ module _ (passes : ℕ → Bool) (weight : ℕ → ℕ) where
   search_end i n b h l m = let e : i ≡ n = omega arith in ap index_kept h ∙ rw e (go (best_index passes weight n))
     where
       go : (o : Option ℕ) → index_kept (weighed o) ≡ o
-      go none = refl
-      go (some j) = refl
+      go None = refl
+      go (Some j) = refl
 
 -- The branches of a step in code: t is the test, found by the code as b; w is the weight, found by the code as x.
 module _ (found : Bool) (at v : ℕ) (t : Bool) (i w : ℕ) (b : Bool) (h : b ≡ t) where
@@ -137,10 +138,10 @@ module _ (found : Bool) (at v : ℕ) (t : Bool) (i w : ℕ) (b : Bool) (h : b �
     unfolding consider_index
     step_lighter g m = rw (known_true h l, g, ← e, lt-leb v x m)
 
-    pub step_heavier : found ≡ true → v ≤ x → some (i, x) ≡ consider_index (best_kept found at v) t i w
+    pub step_heavier : found ≡ true → v ≤ x → Some (i, x) ≡ consider_index (best_kept found at v) t i w
     unfolding consider_index
     step_heavier g m = rw (known_true h l, g, ← e, le-leb v x m)
 
-    pub step_first : found ≡ false → some (i, x) ≡ consider_index (best_kept found at v) t i w
+    pub step_first : found ≡ false → Some (i, x) ≡ consider_index (best_kept found at v) t i w
     unfolding consider_index
     step_first g = rw (known_true h l, g, ← e)

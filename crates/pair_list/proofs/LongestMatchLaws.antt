@@ -1,7 +1,7 @@
 -- The selected key: of those that pass the test, one with most elements, and the last of these.
+use Rattle.std.specs.Prelude.{Option, Some}
 use mathlib.Core.Path.{◌≡◌, ap}
 use mathlib.Core.Bool.{Bool, true, not}
-use mathlib.Core.Option.{Option, some}
 use Prim.Native.Nat.{ℕ, ◌<◌}
 use Rattle.text.specs.Text.{Text, is_nil}
 use Rattle.text.proofs.BoolLaws.{and_r}
@@ -24,7 +24,7 @@ unfolding longest_match
 best_says p key n = says (λ (k : ℕ). matches p (key k)) (λ (k : ℕ). element_count (key k)) n
 
 module _ (passes : Text → Bool) (key : ℕ → Text) where
-  pub chosen_best : (n i : ℕ) → longest_by passes key n ≡ some i → IsLongest passes key n i
+  pub chosen_best : (n i : ℕ) → longest_by passes key n ≡ Some i → IsLongest passes key n i
   unfolding longest_by
   chosen_best n i e = best_chosen (λ (k : ℕ). passes (key k)) (λ (k : ℕ). element_count (key k)) n i e
 

@@ -1,16 +1,16 @@
--- Lemmas for the branches of `key_at`, `is_short_at`, `all_short`, `all_legal` and `all_ends`.
+-- Lemmas for the branches of `key_at` and `is_short_at`, and for the places that `all_short`, `all_legal` and `all_ends` test.
 use mathlib.Core.Path.{◌≡◌, refl, sym}
-use mathlib.Core.Bool.{Bool, true, false, not}
+use mathlib.Core.Bool.{Bool, true, false, ◌&&◌}
 use mathlib.Core.List.{List, []}
 use Prim.Native.Nat.{ℕ, zero, suc, ◌+◌, ◌*◌, ◌-◌, ◌/◌, ◌≤◌, ◌<◌}
-use native.Mathlib.Numerals.{add-one}
 use native.Mathlib.Omega.{arith}
-use native.Mathlib.Decide.{ℕ_discrete}
 use lib.Dec.{leb}
 use lib.ListN.{length, get_or}
 use borrow.Author.Tests.{le-leb, lt-leb}
+use Rattle.std.specs.List.{list_all, range_with_len}
+use native.Mathlib.Nat.{zero-add}
 use Rattle.text.specs.Text.{Text}
-use Rattle.text.proofs.BoolLaws.{and_no, known_false, known_true}
+use Rattle.text.proofs.BoolLaws.{and_yes, and_assoc}
 use Rattle.text_list.specs.Places.{text_at}
 use Rattle.text_list.proofs.PlaceBranches.{text_missing, outside_start, outside_end, is_inside}
 use Rattle.pair_list.specs.Places.{key_at, is_short_at, places_short, places_all}
@@ -38,52 +38,20 @@ pub key_missing : (store : Text) (places : List ℕ) (i : ℕ) (invert : Bool) �
 key_missing store places i true h = text_missing store places (2 * i + 1) (omega arith)
 key_missing store places i false h = text_missing store places (2 * i + 0) (omega arith)
 
-module _ (store : Text) (places : List ℕ) (i : ℕ) (invert : Bool) (r : Text) where
-  pub key_target : invert ≡ true → r ≡ text_at store places (2 * i + 1) → r ≡ key_at store places invert i
-  key_target h e = rw h e
-
-  pub key_source : invert ≡ false → r ≡ text_at store places (2 * i) → r ≡ key_at store places invert i
-  key_source h e = let z : 2 * i + 0 ≡ 2 * i = omega arith in rw (h, z) e
+-- A test of each number below n, the last one apart.
+range_last : (p : ℕ → Bool) (a n : ℕ) → list_all p (range_with_len a (suc n)) ≡ (list_all p (range_with_len a n) && p (a + n))
+range_last p a zero = let z : a + 0 ≡ a = omega arith in rw z (and_yes (p a))
+range_last p a (suc n) =
+    let z : a + suc n ≡ a + 1 + n = omega arith in
+    rw (z, range_last p (a + 1) n) (sym (and_assoc (p a) (list_all p (range_with_len (a + 1) n)) (p (a + 1 + n))))
 
 module _ (store : Text) (places : List ℕ) where
-  pub fit_begin : true ≡ places_short store places 0
+  pub range_short : (n : ℕ) → list_all (is_short_at store places) (range_with_len 0 n) ≡ places_short store places n
   unfolding places_short
-  fit_begin = refl
+  range_short zero = refl
+  range_short (suc n) = rw (range_last (is_short_at store places) 0 n, range_short n, zero-add n) refl
 
-  pub fit_on : (j : ℕ) (b : Bool) → true ≡ places_short store places j → b ≡ is_short_at store places j → not b ≡ false → true ≡ places_short store places (j + 1)
-  unfolding places_short
-  fit_on j b h k l = rw (add-one j, ← h, known_true k l)
-
-  pub fit_found : (n j : ℕ) (b : Bool) → j < n → b ≡ is_short_at store places j → not b ≡ true → false ≡ places_short store places n
-  unfolding places_short
-  fit_found zero j b l h k = absurd (omega arith)
-  fit_found (suc n) j b l h k = elim (ℕ_discrete j n) [
-    | yes e ↦ rw (← e, known_false h k) (sym (and_no (places_short store places j)))
-    | no d ↦ rw (← (fit_found n j b (omega arith) h k))
-  ]
-
-  pub fit_all : (n j : ℕ) → j ≤ n → n ≤ j → true ≡ places_short store places j → true ≡ places_short store places n
-  fit_all n j l m h = let e : n ≡ j = omega arith in rw e h
-
-  module _ (passes : Text → Bool) where
-    pub all_begin : true ≡ places_all passes store places 0
-    unfolding places_all
-    all_begin = refl
-
-    pub all_on : (j : ℕ) (b : Bool) (t : Text) → true ≡ places_all passes store places j → t ≡ text_at store places j → b ≡ passes t → not b ≡ false
-        → true ≡ places_all passes store places (j + 1)
-    unfolding places_all
-    all_on j b t h e k l = rw (add-one j, ← h, ← e, known_true k l)
-
-    pub all_found : (n j : ℕ) (b : Bool) (t : Text) → j < n → t ≡ text_at store places j → b ≡ passes t → not b ≡ true → false ≡ places_all passes store places n
-    unfolding places_all
-    all_found zero j b t l e h k = absurd (omega arith)
-    all_found (suc n) j b t l e h k = elim (ℕ_discrete j n) [
-      | yes q ↦ rw (← q, ← e, known_false h k) (sym (and_no (places_all passes store places j)))
-      | no d ↦ rw (← (all_found n j b t (omega arith) e h k))
-    ]
-
-    pub all_end : (n j : ℕ) → j ≤ n → n ≤ j → true ≡ places_all passes store places j → true ≡ places_all passes store places n
-    all_end n j l m h = let e : n ≡ j = omega arith in rw e h
-
-pub ruleset placing = (fits_missing, fits_start, fits_end, fits_length, key_missing, key_target, key_source, fit_begin, fit_on, fit_found, fit_all, all_begin, all_on, all_found, all_end)
+  pub range_all : (passes : Text → Bool) (n : ℕ) → list_all (λ j. passes (text_at store places j)) (range_with_len 0 n) ≡ places_all passes store places n
+  unfolding places_all
+  range_all passes zero = refl
+  range_all passes (suc n) = rw (range_last (λ j. passes (text_at store places j)) 0 n, range_all passes n, zero-add n) refl

@@ -1,8 +1,7 @@
 -- Meaning: The longest match: the pair of a map that applies to a path. Requirements: "Plain mapping takes, of the pairs whose key is a prefix of
 -- the path, the one whose key has most elements, the later on a tie; empty keys are skipped". OpenUSD: PcpMapFunction's search for the best
 -- match.
-use Rattle.std.specs.Prelude.{ℕ, Bool, not, ◌&&◌}
-use Rattle.std.proofs.Math.Option.{Option}
+use Rattle.std.specs.Prelude.{ℕ, Bool, not, ◌&&◌, Option}
 use Rattle.text.specs.Text.{Text, is_nil}
 use Rattle.path_prefix.specs.Prefix.{has_prefix}
 use Rattle.path_prefix.specs.Elements.{count_elements, element_count}

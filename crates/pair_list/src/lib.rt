@@ -13,10 +13,7 @@ pub fn key_at<'a>(store: &'a [u8], places: &[usize], i: usize, invert: bool) -> 
     if places.len() / 2 <= i {
         return &store[..0];
     }
-    if invert {
-        return text_list::text_at(store, places, 2 * i + 1);
-    }
-    text_list::text_at(store, places, 2 * i)
+    text_list::text_at(store, places, 2 * i + usize::from(invert))
 }
 
 // Returns whether place `j` lies in the store and has at most 255 bytes; a place beyond the slice
@@ -29,53 +26,26 @@ fn is_short_at(store: &[u8], places: &[usize], j: usize) -> bool
     }
     let start = places[2 * j];
     let n = places[2 * j + 1];
-    if store.len() < start {
-        return false;
-    }
-    if store.len() - start < n {
-        return false;
-    }
-    n <= 255
+    start <= store.len() && n <= store.len() - start && n <= 255
 }
 
 // Question 1 for the first n places: returns whether each text has at most 255 bytes.
 pub fn all_short(store: &[u8], places: &[usize], n: usize) -> bool
     ensures { result ≡ places_short store.now places.now n }
 {
-    let mut j = 0;
-    while j < n {
-        if !is_short_at(store, places, j) {
-            return false;
-        }
-        j += 1;
-    }
-    true
+    (0..n).all(|j| is_short_at(store, places, j))
 }
 
 // Question 2 for the first n places: returns whether each text is a legal path.
 pub fn all_legal(store: &[u8], places: &[usize], n: usize) -> bool
     ensures { result ≡ places_all legal store.now places.now n }
 {
-    let mut j = 0;
-    while j < n {
-        if !path_grammar::is_legal(text_list::text_at(store, places, j)) {
-            return false;
-        }
-        j += 1;
-    }
-    true
+    (0..n).all(|j| path_grammar::is_legal(text_list::text_at(store, places, j)))
 }
 
 // Question 3 for the first n places: returns whether each text is a prim path, `/` or empty.
 pub fn all_ends(store: &[u8], places: &[usize], n: usize) -> bool
     ensures { result ≡ places_all is_end store.now places.now n }
 {
-    let mut j = 0;
-    while j < n {
-        if !path_grammar::is_end(text_list::text_at(store, places, j)) {
-            return false;
-        }
-        j += 1;
-    }
-    true
+    (0..n).all(|j| path_grammar::is_end(text_list::text_at(store, places, j)))
 }

@@ -1,4 +1,5 @@
--- Lemmas for the branches of `remaining_room` and `list_fits`.
+-- Lemmas for the branches of `remaining_room`.
+use Rattle.std.specs.Prelude.{Option, Some, None}
 use mathlib.Core.Path.{◌≡◌, refl, sym, ap, ◌∙◌}
 use mathlib.Core.Bool.{Bool, true, false, cond}
 use mathlib.Core.List.{List, [], ◌∷◌, ◌++◌}
@@ -13,8 +14,6 @@ use Rattle.text.specs.Text.{Text}
 use Rattle.pair_list.specs.Pair.{Pair}
 use Rattle.pair_list.specs.Places.{key_at, pair_in, pairs_in, end_bytes}
 use Rattle.pair_list_write.specs.Lists.{remaining_room}
-use Rattle.pair_list_write.specs.declared.Room.{Room}
-use Rattle.pair_list_write.specs.declared.Room.TheVariants.{Left, Over}
 
 pub end_snoc : (l : List Pair) (x : Pair) → end_bytes (l ++ x ∷ []) ≡ end_bytes l + (length x.source + length x.target)
 unfolding end_bytes
@@ -37,12 +36,12 @@ module _ (store : Text) (places : List ℕ) where
     more : end_bytes (pairs_in store places i) + (length (key_at store places false i) + length (key_at store places true i)) ≤ end_bytes (pairs_in store places n)
     more = omega (arith, end_next i, end_grows n (suc i) (omega arith))
 
-    pub room_source : left < length s → Over ≡ remaining_room (pairs_in store places n) room
+    pub room_source : left < length s → None ≡ remaining_room (pairs_in store places n) room
     unfolding remaining_room
     room_source l = rw (lt-leb (end_bytes (pairs_in store places n)) room (omega (arith, more, ap length k))) refl
 
     module _ (t : Text) (j : t ≡ key_at store places true i) where
-      pub room_target : length s ≤ left → left - length s < length t → Over ≡ remaining_room (pairs_in store places n) room
+      pub room_target : length s ≤ left → left - length s < length t → None ≡ remaining_room (pairs_in store places n) room
       unfolding remaining_room
       room_target g l = rw (lt-leb (end_bytes (pairs_in store places n)) room (omega (arith, more, ap length k, ap length j))) refl
 
@@ -53,35 +52,26 @@ module _ (store : Text) (places : List ℕ) where
   unfolding pairs_in end_bytes
   room_begin room = omega arith
 
-  pub room_end : (n room i left : ℕ) → n ≤ i → i ≤ n → left + end_bytes (pairs_in store places i) ≡ room → Left left ≡ remaining_room (pairs_in store places n) room
+  pub room_end : (n room i left : ℕ) → n ≤ i → i ≤ n → left + end_bytes (pairs_in store places i) ≡ room → Some left ≡ remaining_room (pairs_in store places n) room
   unfolding remaining_room
   room_end n room i left l m e =
       let z : n ≡ i = omega arith in
-      rw (z, le-leb (end_bytes (pairs_in store places i)) room (omega arith)) (ap Left (omega arith))
-
-pub ruleset rooms = (room_source, room_target, room_on, room_begin, room_end)
+      rw (z, le-leb (end_bytes (pairs_in store places i)) room (omega arith)) (ap Some (omega arith))
 
 -- What a result of `remaining_room` implies.
-module _ (l : List Pair) (room : ℕ) (r : Room) (e : r ≡ remaining_room l room) where
-  pub left_fits : (left : ℕ) → r ≡ Left left → end_bytes l + left ≡ room
+module _ (l : List Pair) (room : ℕ) (r : Option ℕ) (e : r ≡ remaining_room l room) where
+  pub left_fits : (left : ℕ) → r ≡ Some left → end_bytes l + left ≡ room
   unfolding remaining_room
   left_fits left h = go (leb (end_bytes l) room) refl (sym h ∙ e)
     where
-      go : (b : Bool) → leb (end_bytes l) room ≡ b → Left left ≡ cond b (Left (room - end_bytes l)) Over → end_bytes l + left ≡ room
+      go : (b : Bool) → leb (end_bytes l) room ≡ b → Some left ≡ cond b (Some (room - end_bytes l)) None → end_bytes l + left ≡ room
       go true z w = let x : left ≡ room - end_bytes l = cc in omega (arith, leb-true (end_bytes l) room z)
       go false z w = absurd (let x : ◌≡◌ {A = ℕ} 0 1 = cc in omega arith)
 
-  pub over_full : r ≡ Over → room < end_bytes l
+  pub over_full : r ≡ None → room < end_bytes l
   unfolding remaining_room
   over_full h = go (leb (end_bytes l) room) refl (sym h ∙ e)
     where
-      go : (b : Bool) → leb (end_bytes l) room ≡ b → Over ≡ cond b (Left (room - end_bytes l)) Over → room < end_bytes l
+      go : (b : Bool) → leb (end_bytes l) room ≡ b → None ≡ cond b (Some (room - end_bytes l)) None → room < end_bytes l
       go true z w = absurd (let x : ◌≡◌ {A = ℕ} 0 1 = cc in omega arith)
       go false z w = leb-false (end_bytes l) room z
-
-  -- Lemmas for `list_fits`.
-  pub room_yes : (left : ℕ) → r ≡ Left left → true ≡ leb (end_bytes l) room
-  room_yes left h = sym (le-leb (end_bytes l) room (omega (arith, left_fits left h)))
-
-  pub room_no : r ≡ Over → false ≡ leb (end_bytes l) room
-  room_no h = sym (lt-leb (end_bytes l) room (over_full h))

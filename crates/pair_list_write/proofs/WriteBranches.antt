@@ -1,4 +1,5 @@
--- Lemmas for the branches of `write_entry`, `copy_entry`, `append_list` and `write_list`.
+-- Lemmas for the branches of `write_entry`, `append_list` and `write_list`.
+use Rattle.std.specs.Prelude.{Option, Some, None}
 use mathlib.Core.Path.{◌≡◌, refl, sym, ap, ◌∙◌}
 use mathlib.Core.Bool.{Bool, true, false, not}
 use mathlib.Core.List.{List, [], ◌∷◌, ◌++◌, append_assoc, append-nil}
@@ -12,14 +13,12 @@ use lib.Seq.{sets-eq, take-append_seam, take-append-add, drop-append-add, drop-d
 use borrow.Author.Tests.{le-leb, lt-leb, leb-true, leb-false}
 use Rattle.text.specs.Text.{Text, written, written_at, written_if_fits}
 use Rattle.text.proofs.BoolLaws.{and_no, known_false, known_true}
-use Rattle.text.specs.declared.Fit.{Fit}
-use Rattle.text.specs.declared.Fit.TheVariants.{Written, Over}
 use Rattle.text_list.specs.Places.{text_at}
 use Rattle.text_list.specs.Packed.{text_bytes, text_places}
 use Rattle.text_list.proofs.PackedLaws.{bytes_append, places_append}
 use Rattle.pair_list.specs.Pair.{Pair, ends_of}
 use Rattle.pair_list.specs.Places.{key_at, pair_in, pairs_in, pair_entry, list_text, list_places, end_bytes}
-use Rattle.pair_list_write.specs.Lists.{entry_at, copy_entry, append_fits_buffers, append_list_reply, append_list_bytes, append_list_slots, list_fits_buffers, write_list_reply, write_list_bytes, write_list_slots}
+use Rattle.pair_list_write.specs.Lists.{append_fits_buffers, append_list_reply, append_list_bytes, append_list_slots, list_fits_buffers, write_list_reply, write_list_bytes, write_list_slots}
 use Rattle.pair_list.proofs.PlaceLaws.{pairs_in_length}
 use Rattle.pair_list.proofs.ListLaws.{ends_append, ends_size, list_length, places_length}
 use Rattle.pair_list_write.proofs.RoomBranches.{end_next, end_grows}
@@ -42,7 +41,7 @@ three_stored l j a b c h =
     let f : j + 2 ≡ suc (suc j) = omega arith in
     rw (e, f) (sets-eq v l j h ∙ append_assoc (take j l) v (drop (j + 3) l))
 
--- Lemmas for `write_entry` and `copy_entry`.
+-- Lemmas for `write_entry`.
 module _ (w a b c d : ℕ) (slots : List ℕ) where
   pub entry_over : length slots / 4 ≤ w → slots ≡ written_if_fits (4 * w) (a ∷ b ∷ c ∷ d ∷ []) slots
   unfolding written_if_fits
@@ -51,15 +50,6 @@ module _ (w a b c d : ℕ) (slots : List ℕ) where
   pub entry_fits : w < length slots / 4 → set (set (set (set slots (4 * w) a) (4 * w + 1) b) (4 * w + 2) c) (4 * w + 3) d ≡ written_if_fits (4 * w) (a ∷ b ∷ c ∷ d ∷ []) slots
   unfolding written_if_fits
   entry_fits h = rw (le-leb (4 * w + 4) (length slots) (omega arith)) (entry_stored slots (4 * w) a b c d (omega arith))
-
-module _ (places : List ℕ) (i w : ℕ) (slots : List ℕ) where
-  pub copy_none : length places / 4 ≤ i → slots ≡ copy_entry places i w slots
-  unfolding copy_entry
-  copy_none h = rw (le-leb (length places / 4) i h) refl
-
-  pub copy_some : i < length places / 4 → (slots' : List ℕ) → slots' ≡ written_if_fits (4 * w) (entry_at places i) slots → slots' ≡ copy_entry places i w slots
-  unfolding copy_entry
-  copy_some h slots' e = rw (lt-leb (length places / 4) i h) e
 
 -- One text directly after another, written over a buffer.
 module _ (at : ℕ) (s t out : Text) (h : at + (length s + length t) ≤ length out) where
@@ -167,29 +157,29 @@ module _ (store : Text) (places : List ℕ) where
     abbrev list : List Pair
     list = first n
 
-    abbrev Leaves : Fit → Text → List ℕ → Type 0
+    abbrev Leaves : Option ℕ → Text → List ℕ → Type 0
     Leaves r out slots = (r ≡ append_list_reply start list o p) × ((out ≡ append_list_bytes start list o p) × (slots ≡ append_list_slots start list o p))
 
-    short : append_fits_buffers start list o p ≡ false → Leaves Over o p
+    short : append_fits_buffers start list o p ≡ false → Leaves None o p
     unfolding append_list_reply append_list_bytes append_list_slots
     short h = rw h (refl, (refl, refl))
 
-    pub list_few : length p / 4 < n → Leaves Over o p
+    pub list_few : length p / 4 < n → Leaves None o p
     unfolding append_fits_buffers
     list_few h = short (rw (pairs_in_length store places n, lt-leb n (length p / 4) h) (and_no (leb (start + end_bytes list) (length o))))
 
-    full : length o < start + end_bytes list → Leaves Over o p
+    full : length o < start + end_bytes list → Leaves None o p
     unfolding append_fits_buffers
     full h = short (rw (lt-leb (start + end_bytes list) (length o) h))
 
-    pub list_outside : length o < start → Leaves Over o p
+    pub list_outside : length o < start → Leaves None o p
     list_outside h = full (omega (arith, h))
 
-    pub list_full : start ≤ length o → (b : Bool) → b ≡ leb (end_bytes list) (length o - start) → not b ≡ true → Leaves Over o p
+    pub list_full : start ≤ length o → (b : Bool) → b ≡ leb (end_bytes list) (length o - start) → not b ≡ true → Leaves None o p
     list_full g b h k = full (omega (arith, g, leb-false (end_bytes list) (length o - start) (known_false h k)))
 
     pub list_done : n ≤ length p / 4 → start + end_bytes list ≤ length o → (i : ℕ) (out : Text) (slots : List ℕ) → n ≤ i → i ≤ n → out ≡ written_at start (list_text (first i)) o
-        → slots ≡ written (list_places start (first i)) p → Leaves (Written n) out slots
+        → slots ≡ written (list_places start (first i)) p → Leaves (Some n) out slots
     unfolding append_fits_buffers append_list_reply append_list_bytes append_list_slots
     list_done few fits i out slots l m w v =
         let z : i ≡ n = omega arith in
@@ -197,7 +187,7 @@ module _ (store : Text) (places : List ℕ) where
 
 -- Lemmas for `write_list`, which writes from the beginning.
 module _ (l : List Pair) (o : Text) (p : List ℕ) where
-  pub list_first : (r : Fit) (out : Text) (slots : List ℕ) → (r ≡ append_list_reply 0 l o p) × ((out ≡ append_list_bytes 0 l o p) × (slots ≡ append_list_slots 0 l o p))
+  pub list_first : (r : Option ℕ) (out : Text) (slots : List ℕ) → (r ≡ append_list_reply 0 l o p) × ((out ≡ append_list_bytes 0 l o p) × (slots ≡ append_list_slots 0 l o p))
       → (r ≡ write_list_reply l o p) × ((out ≡ write_list_bytes l o p) × (slots ≡ write_list_slots l o p))
   unfolding append_fits_buffers append_list_reply append_list_bytes append_list_slots list_fits_buffers write_list_reply write_list_bytes write_list_slots
   list_first r out slots h = rw (zero-add (end_bytes l), zero-add (length (list_text l))) at h

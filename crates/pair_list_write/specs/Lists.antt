@@ -1,17 +1,13 @@
 -- Meaning: The result of writing a list of pairs, and the contents of the lent buffers afterwards.
-use Rattle.std.specs.Prelude.{Bool, cond, ◌&&◌, List, [], ◌∷◌, ℕ, ◌+◌, ◌-◌, ◌*◌, ◌/◌, leb, length, get_or}
+use Rattle.std.specs.Prelude.{Bool, cond, ◌&&◌, List, [], ◌∷◌, ℕ, ◌+◌, ◌-◌, ◌*◌, ◌/◌, leb, length, get_or, Option, Some, None}
 use Rattle.text.specs.Text.{Text, written, written_at, written_if_fits}
-use Rattle.text.specs.declared.Fit.{Fit}
-use Rattle.text.specs.declared.Fit.TheVariants.{Written, Over}
-use Rattle.pair_list_write.specs.declared.Room.{Room}
-use Rattle.pair_list_write.specs.declared.Room.TheVariants.{Left, Over as OverRoom}
 use Rattle.pair_list.specs.Pair.{Pair}
 use Rattle.pair_list.specs.Places.{list_text, list_places, end_bytes}
 
 -- The part of the capacity `room` that remains after the bytes of a list.
-unfoldable pub remaining_room : List Pair → ℕ → Room
+unfoldable pub remaining_room : List Pair → ℕ → Option ℕ
 unfolding end_bytes
-remaining_room l room = cond (leb (end_bytes l) room) (Left (room - end_bytes l)) OverRoom
+remaining_room l room = cond (leb (end_bytes l) room) (Some (room - end_bytes l)) None
 
 -- The lent buffers are large enough for the list: for its bytes, and for four numbers for each pair.
 unfoldable pub list_fits_buffers : List Pair → Text → List ℕ → Bool
@@ -19,9 +15,9 @@ unfolding end_bytes
 list_fits_buffers l out slots = leb (end_bytes l) (length out) && leb (length l) (length slots / 4)
 
 -- The result of writing a list: the number of pairs, or `Over` if a buffer is too short.
-unfoldable pub write_list_reply : List Pair → Text → List ℕ → Fit
+unfoldable pub write_list_reply : List Pair → Text → List ℕ → Option ℕ
 unfolding list_fits_buffers
-write_list_reply l out slots = cond (list_fits_buffers l out slots) (Written (length l)) Over
+write_list_reply l out slots = cond (list_fits_buffers l out slots) (Some (length l)) None
 
 -- The byte buffer after writing a list; unchanged if a buffer is too short.
 unfoldable pub write_list_bytes : List Pair → Text → List ℕ → Text
@@ -39,9 +35,9 @@ unfolding end_bytes
 append_fits_buffers at l out slots = leb (at + end_bytes l) (length out) && leb (length l) (length slots / 4)
 
 -- The result of writing a list from byte `at`: the number of pairs, or `Over` if a buffer is too short.
-unfoldable pub append_list_reply : ℕ → List Pair → Text → List ℕ → Fit
+unfoldable pub append_list_reply : ℕ → List Pair → Text → List ℕ → Option ℕ
 unfolding append_fits_buffers
-append_list_reply at l out slots = cond (append_fits_buffers at l out slots) (Written (length l)) Over
+append_list_reply at l out slots = cond (append_fits_buffers at l out slots) (Some (length l)) None
 
 -- The byte buffer after writing a list from byte `at`; unchanged if a buffer is too short.
 unfoldable pub append_list_bytes : ℕ → List Pair → Text → List ℕ → Text

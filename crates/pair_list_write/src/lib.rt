@@ -8,45 +8,27 @@ ghost use Rattle.pair_list.specs.Places.{pairs_in, end_bytes};
 ghost use Rattle.pair_list_write.specs.Packed.{pair_end, pair_bytes, pair_slots};
 ghost use Rattle.pair_list_write.specs.Lists.{copy_entry, remaining_room, append_list_reply, append_list_bytes, append_list_slots, write_list_reply, write_list_bytes, write_list_slots};
 
-// The remaining capacity of a byte buffer.
-#[derive(Clone, Copy)]
-pub enum Room {
-    // The number of bytes that remain.
-    Left(usize),
-    // The list does not fit.
-    Over,
-}
-
 // The part of the capacity `room` that remains after the bytes of the first n pairs.
-pub fn remaining_room(store: &[u8], places: &[usize], n: usize, room: usize) -> Room
+#[tactic(auto, using(crate::proofs::RoomBranches::room_target))]
+pub fn remaining_room(store: &[u8], places: &[usize], n: usize, room: usize) -> Option<usize>
     ensures { result ≡ remaining_room (pairs_in store.now places.now n) room }
 {
     let mut left = room;
-    let mut i = 0;
-    while i < n {
+    for i in 0..n {
         let s = pair_list::key_at(store, places, i, false).len();
-        if left < s {
-            return Room::Over;
-        }
-        left -= s;
+        left = left.checked_sub(s)?;
         let t = pair_list::key_at(store, places, i, true).len();
-        if left < t {
-            return Room::Over;
-        }
-        left -= t;
-        i += 1;
+        left = left.checked_sub(t)?;
     }
-    Room::Left(left)
+    Some(left)
 }
 
 // Returns whether the capacity `room` is enough for the bytes of the first n pairs.
+#[tactic(auto, unfolding(crate::specs::Lists::remaining_room))]
 pub fn list_fits(store: &[u8], places: &[usize], n: usize, room: usize) -> bool
     ensures { result ≡ leb (end_bytes (pairs_in store.now places.now n)) room }
 {
-    match remaining_room(store, places, n, room) {
-        Room::Left(_) => true,
-        Room::Over => false,
-    }
+    remaining_room(store, places, n, room).is_some()
 }
 
 // Writes the four numbers of pair `w` if the slice is long enough; otherwise writes nothing.
@@ -65,6 +47,7 @@ pub fn write_entry(w: usize, a: usize, b: usize, c: usize, d: usize, slots: &mut
 
 // Copies the four numbers of pair `i` over those of pair `w` in another slice, if both pairs lie in
 // their slices.
+#[tactic(auto, unfolding(crate::specs::Lists::copy_entry))]
 pub fn copy_entry(places: &[usize], i: usize, w: usize, slots: &mut [usize])
     ensures { slots.new ≡ copy_entry places.now i w slots.old }
 {
@@ -124,7 +107,7 @@ pub fn append_list(
     at: usize,
     out: &mut [u8],
     slots: &mut [usize],
-) -> text::Fit
+) -> Option<usize>
     ensures value { result ≡ append_list_reply at (pairs_in store.now places.now n) out.old
         slots.old }
     ensures out_after { out.new ≡ append_list_bytes at (pairs_in store.now places.now n)
@@ -133,23 +116,21 @@ pub fn append_list(
         out.old slots.old }
 {
     if slots.len() / 4 < n {
-        return text::Fit::Over;
+        return None;
     }
     if out.len() < at {
-        return text::Fit::Over;
+        return None;
     }
     if !list_fits(store, places, n, out.len() - at) {
-        return text::Fit::Over;
+        return None;
     }
     let mut end = at;
-    let mut i = 0;
-    while i < n {
+    for i in 0..n {
         let s = pair_list::key_at(store, places, i, false);
         let t = pair_list::key_at(store, places, i, true);
         end = push_pair(s, t, i, end, out, slots);
-        i += 1;
     }
-    text::Fit::Written(n)
+    Some(n)
 }
 
 // Like `append_list`, from the beginning of `out`.
@@ -159,7 +140,7 @@ pub fn write_list(
     n: usize,
     out: &mut [u8],
     slots: &mut [usize],
-) -> text::Fit
+) -> Option<usize>
     ensures value { result ≡ write_list_reply (pairs_in store.now places.now n) out.old
         slots.old }
     ensures out_after { out.new ≡ write_list_bytes (pairs_in store.now places.now n)

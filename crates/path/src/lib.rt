@@ -6,98 +6,68 @@
 ghost use Rattle.std.specs.Prelude.{◌≡◌};
 ghost use Rattle.path.specs.Calls.{path_new_call, is_end_call, has_variant_selection_call, element_count_call, prim_element_count_call, has_prefix_call, rest_start_call};
 
-// The reply of a call that tests a path or a map.
-#[derive(Clone, Copy)]
-pub enum Test {
-    Holds(bool),
-    Refused(refusal::Refusal),
-}
-
-// The reply of a call that counts elements.
-#[derive(Clone, Copy)]
-pub enum Count {
-    Counted(path_prefix::Elements),
-    Refused(refusal::Refusal),
-}
-
-// The reply of the prefix test that tells where the rest begins.
-#[derive(Clone, Copy)]
-pub enum RestTest {
-    Tested(path_rest::Rest),
-    Refused(refusal::Refusal),
-}
+use refusal::Refusal;
 
 // Validates a path: a legal text of at most 255 bytes.
-pub fn new(path: &[u8]) -> refusal::Validation
+#[tactic(auto, unfolding(crate::specs::Calls::path_new_call))]
+pub fn new(path: &[u8]) -> Result<(), Refusal>
     ensures { result ≡ path_new_call path.now }
 {
-    refusal::validate_text(path)
+    refusal::validate_texts(&[path])
 }
 
 // Returns whether the path is a prim path, `/` or empty.
-pub fn is_end(path: &[u8]) -> Test
+#[tactic(auto, unfolding(crate::specs::Calls::is_end_call, crate::specs::Calls::test_call))]
+pub fn is_end(path: &[u8]) -> Result<bool, Refusal>
     ensures { result ≡ is_end_call path.now }
 {
-    let q = refusal::validate_text(path);
-    if let refusal::Validation::Refused(x) = q {
-        return Test::Refused(x);
-    }
-    Test::Holds(path_grammar::is_end(path))
+    refusal::validate_texts(&[path])?;
+    Ok(path_grammar::is_end(path))
 }
 
 // Returns whether the path has a variant selection of its own, outside its brackets.
-pub fn has_variant_selection(path: &[u8]) -> Test
+#[tactic(auto, unfolding(crate::specs::Calls::has_variant_selection_call, crate::specs::Calls::test_call))]
+pub fn has_variant_selection(path: &[u8]) -> Result<bool, Refusal>
     ensures { result ≡ has_variant_selection_call path.now }
 {
-    let q = refusal::validate_text(path);
-    if let refusal::Validation::Refused(x) = q {
-        return Test::Refused(x);
-    }
-    Test::Holds(path_own::has_variant_selection(path))
+    refusal::validate_texts(&[path])?;
+    Ok(path_own::has_variant_selection(path))
 }
 
 // Returns whether the path has the prefix.
-pub fn has_prefix(path: &[u8], prefix: &[u8]) -> Test
+#[tactic(auto, unfolding(crate::specs::Calls::has_prefix_call, crate::specs::Calls::test_call))]
+pub fn has_prefix(path: &[u8], prefix: &[u8]) -> Result<bool, Refusal>
     ensures { result ≡ has_prefix_call path.now prefix.now }
 {
-    let q = refusal::validate_two_texts(path, prefix);
-    if let refusal::Validation::Refused(x) = q {
-        return Test::Refused(x);
-    }
-    Test::Holds(path_prefix::has_prefix(path, prefix))
+    refusal::validate_texts(&[path, prefix])?;
+    Ok(path_prefix::has_prefix(path, prefix))
 }
 
 // Returns where the rest of the path after the prefix begins; nothing if it is no prefix of the path.
-pub fn rest_start(path: &[u8], prefix: &[u8]) -> RestTest
+#[tactic(auto, unfolding(crate::specs::Calls::rest_start_call))]
+pub fn rest_start(path: &[u8], prefix: &[u8]) -> Result<Option<usize>, Refusal>
     ensures { result ≡ rest_start_call path.now prefix.now }
 {
-    let q = refusal::validate_two_texts(path, prefix);
-    if let refusal::Validation::Refused(x) = q {
-        return RestTest::Refused(x);
-    }
-    RestTest::Tested(path_rest::rest_start(path, prefix))
+    refusal::validate_texts(&[path, prefix])?;
+    Ok(path_rest::rest_start(path, prefix))
 }
 
 // Returns the number of names and selections in the path, outside its brackets.
-pub fn element_count(path: &[u8]) -> Count
+#[tactic(auto, unfolding(crate::specs::Calls::element_count_call, crate::specs::Calls::count_call))]
+pub fn element_count(path: &[u8]) -> Result<path_prefix::Elements, Refusal>
     ensures { result ≡ element_count_call path.now }
 {
-    let q = refusal::validate_text(path);
-    if let refusal::Validation::Refused(x) = q {
-        return Count::Refused(x);
-    }
+    refusal::validate_texts(&[path])?;
     let own = path_own::own_part(path);
-    Count::Counted(path_prefix::element_count(own))
+    Ok(path_prefix::element_count(own))
 }
 
 // Returns the number of names in the path, outside its brackets.
-pub fn prim_element_count(path: &[u8]) -> Count
+#[tactic(auto, unfolding(crate::specs::Calls::prim_element_count_call, crate::specs::Calls::count_call))]
+pub fn prim_element_count(path: &[u8]) -> Result<path_prefix::Elements, Refusal>
     ensures { result ≡ prim_element_count_call path.now }
 {
-    let q = refusal::validate_text(path);
-    if let refusal::Validation::Refused(x) = q {
-        return Count::Refused(x);
-    }
+    refusal::validate_texts(&[path])?;
     let own = path_own::own_part(path);
-    Count::Counted(path_prefix::prim_element_count(own))
+    Ok(path_prefix::prim_element_count(own))
 }

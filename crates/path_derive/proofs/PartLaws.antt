@@ -1,4 +1,5 @@
 -- What `replace_prefix` has written, from the outcome of the join.
+use Rattle.std.specs.Prelude.{Result, ℕ}
 use mathlib.Core.Path.{◌≡◌}
 use mathlib.Core.Bool.{Bool, true, false, cond}
 use lib.ListN.{length, drop}
@@ -7,11 +8,11 @@ use Rattle.path_grammar.specs.Legal.{at_most255, legal}
 use Rattle.path_join.specs.Join.{join}
 use Rattle.path_join.proofs.JoinParts.{join_in_parts}
 use Rattle.refusal.specs.declared.Refusal.TheVariants.{MadeTooLong, MadeIllegal}
-use Rattle.refusal.specs.declared.Reply.{Reply}
 use Rattle.refusal.specs.Outcome.{Outcome, path, refused, outcome_reply, outcome_buffer, checked, ReturnsPath}
 use Rattle.path_derive.specs.Calls.{WrittenInParts}
+use Rattle.refusal.specs.declared.Refusal.{Refusal}
 
-pub written_in_parts : (p s t : Text) (reply : Reply) (out out' : Text) → ReturnsPath (checked (join s t (drop (length s) p))) reply out out'
+pub written_in_parts : (p s t : Text) (reply : Result ℕ Refusal) (out out' : Text) → ReturnsPath (checked (join s t (drop (length s) p))) reply out out'
     → WrittenInParts p s t reply out'
 unfolding checked outcome_reply outcome_buffer
 written_in_parts p s t reply out out' w = go (at_most255 q) (legal q) w.0 w.1

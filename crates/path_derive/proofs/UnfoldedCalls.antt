@@ -1,19 +1,14 @@
 -- Each call as the code validates it: one text, or three, of which one may be empty.
 use mathlib.Core.Path.{◌≡◌, refl}
-use mathlib.Core.Bool.{cond}
 use mathlib.Core.List.{[], ◌∷◌}
 use Prim.Native.Nat.{ℕ}
-use lib.Dec.{leb}
-use lib.ListN.{length}
 use Rattle.text.specs.Text.{Text}
 use Rattle.path_join.specs.Join.{replace_prefix}
-use Rattle.path_parts.specs.Parent.{parent, prim_path, split_property, ancestor_lens}
+use Rattle.path_parts.specs.Parent.{parent, prim_path, split_property}
 use Rattle.path_parts.specs.Strip.{strip}
-use Rattle.refusal.specs.declared.Refusal.TheVariants.{NoRoom}
-use Rattle.refusal.specs.declared.Reply.TheVariants.{Written, Refused}
-use Rattle.refusal.specs.Refusal.{validate_texts, refused_or}
+use Rattle.refusal.specs.Refusal.{validate_texts}
 use Rattle.refusal.specs.Outcome.{after_checks, checked, checked_option}
-use Rattle.path_derive.specs.Calls.{replace_prefix_call, parent_call, prim_path_call, split_property_call, strip_call, ancestors_reply}
+use Rattle.path_derive.specs.Calls.{replace_prefix_call, parent_call, prim_path_call, split_property_call, strip_call}
 
 module _ (p : Text) (room : ℕ) where
   pub replace_unfolded : (s t : Text) → replace_prefix_call p s t room ≡ after_checks (validate_texts (p ∷ s ∷ t ∷ [])) room (checked_option (replace_prefix p s t))
@@ -35,8 +30,3 @@ module _ (p : Text) (room : ℕ) where
   pub strip_unfolded : strip_call p room ≡ after_checks (validate_texts (p ∷ [])) room (checked (strip p))
   unfolding strip_call
   strip_unfolded = refl
-
-  pub ancestors_unfolded : ancestors_reply p room
-      ≡ refused_or (validate_texts (p ∷ [])) Refused (cond (leb (length (ancestor_lens p)) room) (Written (length (ancestor_lens p))) (Refused NoRoom))
-  unfolding ancestors_reply
-  ancestors_unfolded = refl

@@ -1,9 +1,9 @@
 -- A text that the automaton accepts from a state is the text of what may remain of a path there: one half of the theorem. The text is given by its
 -- characters, which are allowed.
+use Rattle.std.specs.Prelude.{Option, Some, None}
 use mathlib.Core.Path.{◌≡◌, refl, sym, ap, ◌∙◌}
 use mathlib.Core.Bool.{Bool, true, false, cond, ◌||◌, false≢true}
 use mathlib.Core.List.{List, [], ◌∷◌, ◌++◌, append_assoc}
-use mathlib.Core.Option.{Option, none, some}
 use Prim.Native.Nat.{ℕ}
 use native.Mathlib.Omega.{arith}
 use lib.Dec.{eqb, leb}
@@ -140,7 +140,7 @@ number_cont c ok h = go (is_name_start_byte c) refl h
     go false e k = or_right (is_identifier_start c) (is_ascii_digit c) k
 
 nothing : After
-nothing = record { selections = []; rest = []; property = none }
+nothing = record { selections = []; rest = []; property = None }
 
 -- A prim, a selection or a property added in front.
 with_prim : g.Name → After → After
@@ -152,7 +152,7 @@ with_selection n w x =
     record { selections = (record { variant_set = n; variant = w }) ∷ x.selections; rest = x.rest; property = x.property }
 
 with_property : g.Name → List g.Name → After
-with_property n r = record { selections = []; rest = []; property = some (record { first = n; more = r }) }
+with_property n r = record { selections = []; rest = []; property = Some (record { first = n; more = r }) }
 
 -- The texts of those.
 prim_name : (n : g.Name) (x : After) → after_name (with_prim n x) ≡ 47 ∷ (name_text n ++ after_name x)

@@ -1,8 +1,8 @@
 -- The rendering of a path is legal: the other half of the theorem.
+use Rattle.std.specs.Prelude.{Option, Some, None}
 use mathlib.Core.Path.{◌≡◌, refl, ap, ◌∙◌}
 use mathlib.Core.Bool.{true, false}
 use mathlib.Core.List.{List, [], ◌∷◌, ◌++◌, append-nil, append_assoc}
-use mathlib.Core.Option.{Option, none, some}
 use Prim.Native.Nat.{ℕ, zero, suc}
 use lib.Dec.{leb}
 use Rattle.text.specs.Text.{Text, is_nil, lacks_byte, take_until, drop_until}
@@ -152,10 +152,10 @@ reads_property x = rw (run_app Dot (name_text x.first) (more_text x.more), from_
 
 accepts : (r : List g.Selection) (x : Option g.Property) → accept (run (after r) (property_text x)) ≡ true
 unfolding accept run step property_text is_name_start_byte is_name_byte
-accepts [] none = refl
-accepts (s ∷ r) none = refl
-accepts [] (some x) = rw (reads_property x)
-accepts (s ∷ r) (some x) = rw (reads_property x)
+accepts [] None = refl
+accepts (s ∷ r) None = refl
+accepts [] (Some x) = rw (reads_property x)
+accepts (s ∷ r) (Some x) = rw (reads_property x)
 
 -- The text of prims begins with a name.
 pub prims_named : (p : g.Prim) (r : List g.Prim) (y : Text) → starts_name (prims_text p r ++ y) ≡ true
@@ -207,8 +207,8 @@ more_allowed (n ∷ r) = cons_allowed 58 _ refl (allowed_join (name_text n) (mor
 
 property_allowed : (x : Option g.Property) → characters_allowed (property_text x) ≡ true
 unfolding property_text
-property_allowed none = allowed_none
-property_allowed (some x) = cons_allowed 46 _ refl (allowed_join (name_text x.first) (more_text x.more) (name_allowed x.first) (more_allowed x.more))
+property_allowed None = allowed_none
+property_allowed (Some x) = cons_allowed 46 _ refl (allowed_join (name_text x.first) (more_text x.more) (name_allowed x.first) (more_allowed x.more))
 
 own_text_allowed : (p : g.Prim) (r : List g.Prim) (x : Option g.Property) → characters_allowed (own_text p r x) ≡ true
 unfolding own_text
@@ -260,7 +260,7 @@ within_own zero t e = e
 within_own (suc d) t e = let h : lacks_byte 91 t ≡ true = own_unbracketed t e in rw (own_all t h, target_none t h, e)
 
 -- A path with a property has a dot.
-pub own_dotted : (p : g.Prim) (r : List g.Prim) (x : g.Property) → lacks_byte 46 (own_text p r (some x)) ≡ false
+pub own_dotted : (p : g.Prim) (r : List g.Prim) (x : g.Property) → lacks_byte 46 (own_text p r (Some x)) ≡ false
 unfolding own_text property_text
 own_dotted p r x = dot_found (47 ∷ prims_text p r) (name_text x.first ++ more_text x.more)
 
@@ -269,7 +269,7 @@ unfolding absolute_text
 within_render (g.root {d}) = within_own d (47 ∷ []) root_own
 within_render (g.prims {d} p r x) = within_own d (own_text p r x) (own_render p r x)
 within_render (g.target {d} p r x q) =
-    bracket_legal d (own_text p r (some x)) (absolute_text q) (own_render p r (some x)) (own_dotted p r x) (absolute_render q) (within_render q)
+    bracket_legal d (own_text p r (Some x)) (absolute_text q) (own_render p r (Some x)) (own_dotted p r x) (absolute_render q) (within_render q)
 
 pub legal_render : (p : g.Path) → legal (render p) ≡ true
 unfolding legal render
@@ -288,11 +288,11 @@ module _ (p : g.Prim) (r : List g.Prim) where
   target_prims x = target_none (own_text p r x) (own_unbracketed_text x)
 
   module _ (x : g.Property) (t : Text) where
-    pub own_target : own_part (own_text p r (some x) ++ bracket_text t) ≡ own_text p r (some x)
+    pub own_target : own_part (own_text p r (Some x) ++ bracket_text t) ≡ own_text p r (Some x)
     unfolding bracket_text own_part take_until
     own_target =
-        own_after (own_text p r (some x)) (bracket_text t) (own_unbracketed_text (some x)) ∙ append-nil (own_text p r (some x))
+        own_after (own_text p r (Some x)) (bracket_text t) (own_unbracketed_text (Some x)) ∙ append-nil (own_text p r (Some x))
 
-    pub target_target : target_part (own_text p r (some x) ++ bracket_text t) ≡ bracket_text t
+    pub target_target : target_part (own_text p r (Some x) ++ bracket_text t) ≡ bracket_text t
     unfolding bracket_text target_part drop_until
-    target_target = target_after (own_text p r (some x)) (bracket_text t) (own_unbracketed_text (some x))
+    target_target = target_after (own_text p r (Some x)) (bracket_text t) (own_unbracketed_text (Some x))

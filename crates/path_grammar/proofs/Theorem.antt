@@ -1,8 +1,8 @@
 -- The theorem that a text is legal exactly if it is the rendering of some path.
+use Rattle.std.specs.Prelude.{Option, Some, None}
 use mathlib.Core.Path.{◌≡◌, refl, sym, ap, ◌∙◌}
 use mathlib.Core.Bool.{Bool, true, false, ◌&&◌, true≢false, false≢true}
 use mathlib.Core.List.{List, [], ◌∷◌, ◌++◌, append-nil}
-use mathlib.Core.Option.{Option, none, some}
 use Prim.Native.Nat.{ℕ, zero, suc}
 use lib.Dec.{eqb}
 use borrow.Author.Tests.{eqb-true}
@@ -49,7 +49,7 @@ record RenderedProperty (o : Text) : Type 0 where
   prim : g.Prim
   more : List g.Prim
   property : g.Property
-  same : own_text prim more (some property) ≡ o
+  same : own_text prim more (Some property) ≡ o
 
 property_written : (o : Text) → legal_own o ≡ true → lacks_byte 46 o ≡ false → RenderedProperty o
 unfolding lacks_byte own_text
@@ -64,10 +64,10 @@ property_written (c ∷ b ∷ r) e n = go w.property w.same
     w = after_slash_lem c b r e
 
     go : (x : Option g.Property) → prims_text w.prim w.more ++ property_text x ≡ b ∷ r → RenderedProperty (c ∷ b ∷ r)
-    go none k =
+    go None k =
         let i : prims_text w.prim w.more ≡ b ∷ r = sym (append-nil (prims_text w.prim w.more)) ∙ k in
         absurd (true≢false (sym (ap (lacks_byte 46) (sym i) ∙ prims_dotless w.prim w.more) ∙ rw q at n))
-    go (some x) k = record { prim = w.prim; more = w.more; property = x; same = ap (λ (y : Text). 47 ∷ y) k ∙ ap (λ (y : ℕ). y ∷ b ∷ r) (sym q) }
+    go (Some x) k = record { prim = w.prim; more = w.more; property = x; same = ap (λ (y : Text). 47 ∷ y) k ∙ ap (λ (y : ℕ). y ∷ b ∷ r) (sym q) }
 
 -- A path in brackets after a legal own part with a property.
 target_written : (d : ℕ) (o t : Text) → RenderedProperty o → RenderedAbsolute d t → RenderedAbsolute (suc d) (o ++ bracket_text t)

@@ -1,7 +1,6 @@
 -- Meaning: The grammar of path texts, as data types and their rendering to text. Every value of these types is a path, and a text is legal exactly
 -- if it is the rendering of some path (`LegalIsRendered`, proved in proofs/Theorem.antt).
-use Rattle.std.specs.Prelude.{◌≡◌, Bool, true, ◌&&◌, ◌||◌, List, [], ◌∷◌, ◌++◌, ◌↔◌, ℕ, suc}
-use Rattle.std.proofs.Math.Option.{Option, none, some}
+use Rattle.std.specs.Prelude.{◌≡◌, Bool, true, ◌&&◌, ◌||◌, List, [], ◌∷◌, ◌++◌, ◌↔◌, ℕ, suc, Option, Some, None}
 use Rattle.text.specs.Text.{Text}
 use Rattle.text.specs.Bytes.{close_brace, close_bracket, colon, dot, equals_sign, open_brace, open_bracket, slash}
 use Rattle.characters.specs.Utf8.{encode_all}
@@ -119,8 +118,8 @@ more_text (n ∷ r) = colon ∷ (name_text n ++ more_text r)
 -- The text of a property, if there is one.
 unfoldable pub property_text : Option Property → Text
 unfolding name_text more_text
-property_text none = []
-property_text (some x) = dot ∷ (name_text x.first ++ more_text x.more)
+property_text None = []
+property_text (Some x) = dot ∷ (name_text x.first ++ more_text x.more)
 
 -- The text of prims and perhaps a property: the own part of a path.
 unfoldable pub own_text : Prim → List Prim → Option Property → Text
@@ -136,7 +135,7 @@ unfoldable pub absolute_text : {d : ℕ} → Absolute d → Text
 unfolding own_text bracket_text
 absolute_text root = slash ∷ []
 absolute_text (prims p r x) = own_text p r x
-absolute_text (target p r x q) = own_text p r (some x) ++ bracket_text (absolute_text q)
+absolute_text (target p r x q) = own_text p r (Some x) ++ bracket_text (absolute_text q)
 
 -- The text of a path.
 unfoldable pub render : Path → Text

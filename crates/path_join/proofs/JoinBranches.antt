@@ -1,4 +1,5 @@
 -- Lemmas for the branches of `is_join_illegal`, `write_separator`, `has_separator`, `join` and `is_join`.
+use Rattle.std.specs.Prelude.{Some, None}
 use mathlib.Core.Path.{◌≡◌, refl, sym, ◌∙◌}
 use mathlib.Core.Logic.{◌≢◌}
 use mathlib.Core.Bool.{Bool, true, false, not, cond, ◌&&◌, ◌||◌}
@@ -12,7 +13,6 @@ use lib.ListN.{length, get_or, set, take, drop, length-append, drop_of_length-le
 use lib.Seq.{length-take-le, take-nil, set_split, set-get_or, drop-cons, drop-drop}
 use borrow.Author.Tests.{eq-eqb, ne_eqb, eqb-true, eqb-false, le-leb, lt-leb}
 use Rattle.text.specs.Text.{Text, is_nil, equal, starts_with, strip_prefix, written_if_fits, fit_of}
-use Rattle.text.specs.declared.Fit.TheVariants.{Written, Over}
 use Rattle.text.proofs.BoolLaws.{and_no, and_yes, or_right, or_false, known_false, known_true}
 use Rattle.text.proofs.TextLaws.{equal_append, equal_lengths}
 use Rattle.text.proofs.WriteLaws.{placed_first, placed_next, rest_whole, over_none}
@@ -101,7 +101,7 @@ module _ (at : ℕ) (x : Text) where
 pub ruleset separators = (separator_outside, separator_stored, separator_beyond, separator_there)
 
 -- A text that does not fit.
-over_long : (t out : Text) → length out < length t → (Over ≡ fit_of t out) × (out ≡ written_if_fits 0 t out)
+over_long : (t out : Text) → length out < length t → (None ≡ fit_of t out) × (out ≡ written_if_fits 0 t out)
 unfolding fit_of written_if_fits
 over_long t out h = rw (zero-add (length t), lt-leb (length t) (length out) h) (refl, refl)
 
@@ -122,12 +122,12 @@ module _ (s t r : Text) (k f : ℕ) (l : LaysOut s t r k f) where
 
   -- `join`
   module _ (out : Text) where
-    pub join_over : length out < length t + k + length (take (length r - f) (drop f r)) → (Over ≡ fit_of (join s t r) out) × (out ≡ written_if_fits 0 (join s t r) out)
+    pub join_over : length out < length t + k + length (take (length r - f) (drop f r)) → (None ≡ fit_of (join s t r) out) × (out ≡ written_if_fits 0 (join s t r) out)
     join_over h = over_long (join s t r) out (omega (arith, joined_length))
 
     pub join_fits : (x y z : Text) → length t + k + length (take (length r - f) (drop f r)) ≤ length out
         → x ≡ written_if_fits 0 t out → y ≡ written_if_fits (length t) (take k (47 ∷ [])) x → z ≡ written_if_fits (length t + k) (take (length r - f) (drop f r)) y
-        → (Written (length t + k + length (take (length r - f) (drop f r))) ≡ fit_of (join s t r) out) × (z ≡ written_if_fits 0 (join s t r) out)
+        → (Some (length t + k + length (take (length r - f) (drop f r))) ≡ fit_of (join s t r) out) × (z ≡ written_if_fits 0 (join s t r) out)
     unfolding fit_of
     join_fits x y z h ex ey ez =
         let a : Text = take k (47 ∷ []) in

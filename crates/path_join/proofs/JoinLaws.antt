@@ -1,8 +1,8 @@
 -- Prefix replacement as a relation between two paths that is symmetric in old and new prefix.
+use Rattle.std.specs.Prelude.{Some}
 use mathlib.Core.Path.{◌≡◌, refl, sym, ◌∙◌}
 use mathlib.Core.Bool.{Bool, true, false, cond, true≢false, false≢true}
 use mathlib.Core.List.{[], ◌∷◌, ◌++◌, append-nil}
-use mathlib.Core.Option.{some}
 use Prim.Native.Nat.{ℕ, ◌+◌}
 use native.Mathlib.Omega.{arith}
 use lib.Dec.{eqb}
@@ -72,17 +72,17 @@ pub join_other : (s t : Text) (a : ℕ) (r : Text) → is_root s ≡ false → e
 unfolding join
 join_other s t a r h l e = rw (h, e, l)
 
-made : (s t r p q : Text) → can_follow s r ≡ true → s ++ r ≡ p → join s t r ≡ q → (has_prefix p s ≡ true) × (replace_prefix p s t ≡ some q)
+made : (s t r p q : Text) → can_follow s r ≡ true → s ++ r ≡ p → join s t r ≡ q → (has_prefix p s ≡ true) × (replace_prefix p s t ≡ Some q)
 made s t r p q f h k = rw (← h, ← k) (prefix_made s r ∙ f, replace_made s t r f)
 
 -- Related paths: replacing the prefix of the one yields the other.
-pub back : {s t p q : Text} → Rel s t p q → is_end s ≡ true → is_end t ≡ true → (has_prefix p s ≡ true) × (replace_prefix p s t ≡ some q)
+pub back : {s t p q : Text} → Rel s t p q → is_end s ≡ true → is_end t ≡ true → (has_prefix p s ≡ true) × (replace_prefix p s t ≡ Some q)
 unfolding can_follow
 back {s} {t} whole es et = made s t [] s t refl (append-nil s) (join_none s t)
 back {s} {t} (under x r) es et = go (is_root s) refl
   where
     go : (b : Bool) → is_root s ≡ b
-        → (has_prefix (stem s ++ 47 ∷ x ∷ r) s ≡ true) × (replace_prefix (stem s ++ 47 ∷ x ∷ r) s t ≡ some (stem t ++ 47 ∷ x ∷ r))
+        → (has_prefix (stem s ++ 47 ∷ x ∷ r) s ≡ true) × (replace_prefix (stem s ++ 47 ∷ x ∷ r) s t ≡ Some (stem t ++ 47 ∷ x ∷ r))
     go true h = rw (root_is s h) (made (47 ∷ []) t (x ∷ r) _ _ refl (sym (stem_root (47 ∷ x ∷ r))) (join_root t x r))
     go false h = made s t (47 ∷ x ∷ r) _ _ (rw h) (sym (stem_not s (47 ∷ x ∷ r) h)) (join_slash s t (x ∷ r) h (end_close t et))
 back {s} {t} (dotted r h k) es et = made s t (46 ∷ r) _ _ (rw h) refl (join_other s t 46 r h (end_close s es) refl)
@@ -144,13 +144,13 @@ rests s t (a ∷ r) n es et lp f j lq = root (is_root s) refl
 
 -- So a path is related to the result of prefix replacement.
 pub replaced : (p s t q : Text) → is_nil s ≡ false → is_end s ≡ true → is_end t ≡ true → legal p ≡ true → has_variant_selection p ≡ false
-    → replace_prefix p s t ≡ some q → legal q ≡ true → Rel s t p q
+    → replace_prefix p s t ≡ Some q → legal q ≡ true → Rel s t p q
 replaced p s t q n es et lp f e lq = go (drop (length s) p) (prefix_rest p s h).0 (prefix_rest p s h).1 (sym (replace_prefix_lem p s t h) ∙ e)
   where
     h : has_prefix p s ≡ true
     h = replaced_prefix p s t q e
 
-    go : (r : Text) → p ≡ s ++ r → can_follow s r ≡ true → some (join s t r) ≡ some q → Rel s t p q
+    go : (r : Text) → p ≡ s ++ r → can_follow s r ≡ true → Some (join s t r) ≡ Some q → Rel s t p q
     go r k j i = let m : join s t r ≡ q = cc in rw (k, ← m) (rests s t r n es et (rw k at lp) (rw k at f) j (rw (← m) at lq))
 
 count_stem : (f : Bool) (s y : Text) → is_end s ≡ true → count_elements f (stem s ++ 47 ∷ y) ≡ count_elements f s + count_elements f (47 ∷ y)

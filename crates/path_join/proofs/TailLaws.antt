@@ -1,8 +1,8 @@
 -- The target part of a path as a plain tail: what replaces the prefix of the own part replaces that of the path and leaves the tail.
+use Rattle.std.specs.Prelude.{Option, Some, None}
 use mathlib.Core.Path.{◌≡◌, refl, sym, ap, ◌∙◌}
 use mathlib.Core.Bool.{Bool, true, false, not, cond, ◌&&◌, true≢false}
 use mathlib.Core.List.{[], ◌∷◌, ◌++◌, append-nil, append_assoc}
-use mathlib.Core.Option.{Option, none, some}
 use Prim.Native.Nat.{ℕ, zero, suc}
 use lib.Dec.{eqb}
 use lib.ListN.{length, take, drop}
@@ -88,8 +88,8 @@ no_bracket s a r es l = go (eqb a 91) refl
 
 -- The option with a text appended to its value.
 unfoldable pub appended : Text → Option Text → Option Text
-appended y none = none
-appended y (some r) = some (r ++ y)
+appended y None = None
+appended y (Some r) = Some (r ++ y)
 
 -- A prefix without brackets ends before the first bracket, if there is one.
 strip_before : (s o z : Text) → lacks_byte 91 s ≡ true → strip_prefix s (o ++ 91 ∷ z) ≡ appended (91 ∷ z) (strip_prefix s o)
@@ -99,17 +99,17 @@ strip_before (a ∷ s) [] z h = rw (lacks_first 91 a s h)
 strip_before (a ∷ s) (b ∷ o) z h = go (eqb a b) (strip_before s o z (lacks_rest 91 a s h))
   where
     go : (c : Bool) → strip_prefix s (o ++ 91 ∷ z) ≡ appended (91 ∷ z) (strip_prefix s o)
-        → cond c (strip_prefix s (o ++ 91 ∷ z)) none ≡ appended (91 ∷ z) (cond c (strip_prefix s o) none)
+        → cond c (strip_prefix s (o ++ 91 ∷ z)) None ≡ appended (91 ∷ z) (cond c (strip_prefix s o) None)
     go true ih = ih
     go false ih = refl
 
 -- A byte other than the slash that neither prefix has is in the text made exactly if it was in the old one.
-pub replaced_lacks : (b : ℕ) → eqb 47 b ≡ false → (o s t q : Text) → lacks_byte b s ≡ true → lacks_byte b t ≡ true → replace_prefix o s t ≡ some q
+pub replaced_lacks : (b : ℕ) → eqb 47 b ≡ false → (o s t q : Text) → lacks_byte b s ≡ true → lacks_byte b t ≡ true → replace_prefix o s t ≡ Some q
     → lacks_byte b q ≡ lacks_byte b o
 replaced_lacks b n o s t q hs ht e =
     let h : has_prefix o s ≡ true = replaced_prefix o s t q e in
     let r : Text = drop (length s) o in
-    let made : join s t r ≡ q = let x : some (join s t r) ≡ some q = sym (replace_prefix_lem o s t h) ∙ e in cc in
+    let made : join s t r ≡ q = let x : Some (join s t r) ≡ Some q = sym (replace_prefix_lem o s t h) ∙ e in cc in
     ap (lacks_byte b) (sym made) ∙ join_lacks b n s t r ht ∙ sym (ap (lacks_byte b) (prefix_rest o s h).0 ∙ rw (lacks_append b s r, hs))
 
 -- A text o with a dot, a bracket after it, and an end s. The end has no dot, so it is not the text o: what follows it in o is not empty, and the
@@ -118,7 +118,7 @@ module _ (o z s : Text) (dotted : lacks_byte 46 o ≡ false) (es : is_end s ≡ 
   stripped : strip_prefix s (o ++ 91 ∷ z) ≡ appended (91 ∷ z) (strip_prefix s o)
   stripped = strip_before s o z (end_unbracketed s es)
 
-  shorter : strip_prefix s o ≡ some [] → ⊥
+  shorter : strip_prefix s o ≡ Some [] → ⊥
   shorter h = true≢false (sym (rw (after_up s o [] h ∙ append-nil s) (end_undotted s es)) ∙ dotted)
 
   pub prefix_before : has_prefix (o ++ 91 ∷ z) s ≡ has_prefix o s
@@ -126,22 +126,22 @@ module _ (o z s : Text) (dotted : lacks_byte 46 o ≡ false) (es : is_end s ≡ 
   prefix_before = rw stripped (go (strip_prefix s o) refl)
     where
       go : (x : Option Text) → strip_prefix s o ≡ x → can_follow_some s (appended (91 ∷ z) x) ≡ can_follow_some s x
-      go none h = refl
-      go (some []) h = absurd (shorter h)
-      go (some (a ∷ r)) h = refl
+      go None h = refl
+      go (Some []) h = absurd (shorter h)
+      go (Some (a ∷ r)) h = refl
 
   pub replace_before : (t : Text) → replace_prefix (o ++ 91 ∷ z) s t ≡ appended (91 ∷ z) (replace_prefix o s t)
   unfolding replace_prefix can_follow appended
   replace_before t = rw stripped (go (strip_prefix s o) refl)
     where
-      kept : (b : Bool) (a : ℕ) (r : Text) → cond b (some (join s t (a ∷ (r ++ 91 ∷ z)))) none ≡ appended (91 ∷ z) (cond b (some (join s t (a ∷ r))) none)
-      kept true a r = ap some (join_tail s t a r (91 ∷ z))
+      kept : (b : Bool) (a : ℕ) (r : Text) → cond b (Some (join s t (a ∷ (r ++ 91 ∷ z)))) None ≡ appended (91 ∷ z) (cond b (Some (join s t (a ∷ r))) None)
+      kept true a r = ap Some (join_tail s t a r (91 ∷ z))
       kept false a r = refl
 
       go : (x : Option Text) → strip_prefix s o ≡ x → join_some s t (appended (91 ∷ z) x) ≡ appended (91 ∷ z) (join_some s t x)
-      go none h = refl
-      go (some []) h = absurd (shorter h)
-      go (some (a ∷ r)) h = kept (is_boundary s a) a r
+      go None h = refl
+      go (Some []) h = absurd (shorter h)
+      go (Some (a ∷ r)) h = kept (is_boundary s a) a r
 
 -- A legal path with a target part is such a text.
 module _ (p : Text) (l : legal p ≡ true) (a : ℕ) (z : Text) (e : target_part p ≡ a ∷ z) where
@@ -153,14 +153,14 @@ module _ (p : Text) (l : legal p ≡ true) (a : ℕ) (z : Text) (e : target_part
 
   pub appended_target : (o : Option Text) → appended (91 ∷ z) o ≡ followed_by_target p o
   unfolding appended followed_by_target
-  appended_target none = refl
-  appended_target (some q) = ap (λ (x : Text). some (q ++ x)) (ap (λ (x : ℕ). x ∷ z) (sym (target_head p a z e)) ∙ sym e)
+  appended_target None = refl
+  appended_target (Some q) = ap (λ (x : Text). Some (q ++ x)) (ap (λ (x : ℕ). x ∷ z) (sym (target_head p a z e)) ∙ sym e)
 
 -- Without a target part nothing follows.
 pub with_none : (p : Text) → target_part p ≡ [] → (o : Option Text) → followed_by_target p o ≡ o
 unfolding followed_by_target
-with_none p e none = refl
-with_none p e (some q) = rw e (ap some (append-nil q))
+with_none p e None = refl
+with_none p e (Some q) = rw e (ap Some (append-nil q))
 
 pub prefix_of_own_part : PrefixOfOwnPart
 prefix_of_own_part p s l es = go (target_part p) refl

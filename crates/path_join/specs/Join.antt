@@ -1,8 +1,7 @@
 -- Meaning: Prefix replacement: the new prefix, a separator, and the remainder without its own leading slash. OpenUSD: SdfPath::ReplacePrefix; unlike
 -- there, a path without the prefix yields no path here.
-use Rattle.std.specs.Prelude.{ℕ, ◌≡◌, Bool, true, false, not, cond, ◌&&◌, ◌||◌, [], ◌∷◌, ◌++◌, eqb, length, take, drop}
+use Rattle.std.specs.Prelude.{ℕ, ◌≡◌, Bool, true, false, not, cond, ◌&&◌, ◌||◌, [], ◌∷◌, ◌++◌, eqb, length, take, drop, Option, Some, None}
 use Prim.Native.String.{String}
-use Rattle.std.proofs.Math.Option.{Option, none, some}
 use Rattle.text.specs.Text.{Text, bytes, is_nil, strip_prefix, ends_with_byte}
 use Rattle.text.specs.Bytes.{close_brace, dot, open_brace, slash}
 use Rattle.path_grammar.specs.Legal.{is_root, is_name_byte, legal, is_end}
@@ -52,8 +51,8 @@ join s t r = t ++ (separator s t r ++ body s r)
 -- The joined text if there is a remainder and it may follow s; otherwise none.
 abbrev pub join_some : Text → Text → Option Text → Option Text
 unfolding can_follow join
-join_some s t none = none
-join_some s t (some r) = cond (can_follow s r) (some (join s t r)) none
+join_some s t None = None
+join_some s t (Some r) = cond (can_follow s r) (Some (join s t r)) None
 
 -- The path p with its prefix s replaced by t; none if s is not a prefix of p (Rust: replace_prefix).
 unfoldable pub replace_prefix : Text → Text → Text → Option Text
@@ -63,7 +62,7 @@ replace_prefix p s t = join_some s t (strip_prefix s p)
 -- The path p with its prefix s replaced by t is q, and the separator has length k.
 abbrev pub Replaces : String → String → String → ℕ → String → Type 0
 Replaces p s t k q =
-    (separator_len (bytes s) (bytes t) (drop (length (bytes s)) (bytes p)) ≡ k) × (replace_prefix (bytes p) (bytes s) (bytes t) ≡ some (bytes q))
+    (separator_len (bytes s) (bytes t) (drop (length (bytes s)) (bytes p)) ≡ k) × (replace_prefix (bytes p) (bytes s) (bytes t) ≡ Some (bytes q))
 
 -- Worked examples (proofs/JoinParts.antt): one for each clause of `separator_len`, and the empty old prefix, which is not `/`.
 pub record SeparatorExamples : Type 0 where

@@ -1,6 +1,5 @@
 -- Meaning: The target part of a path as a plain tail. Requirements: "Mapping treats the bracketed part as plain tail and leaves it."
-use Rattle.std.specs.Prelude.{◌≡◌, true, ◌++◌}
-use Rattle.std.proofs.Math.Option.{Option, none, some}
+use Rattle.std.specs.Prelude.{◌≡◌, true, ◌++◌, Option, Some, None}
 use Rattle.text.specs.Text.{Text}
 use Rattle.path_grammar.specs.Own.{own_part, target_part}
 use Rattle.path_grammar.specs.Legal.{legal, is_end}
@@ -9,8 +8,8 @@ use Rattle.path_join.specs.Join.{replace_prefix}
 
 -- The answer for the own part of the path p, then the target part of p; no path if there is no answer.
 unfoldable pub followed_by_target : Text → Option Text → Option Text
-followed_by_target p none = none
-followed_by_target p (some q) = some (q ++ target_part p)
+followed_by_target p None = None
+followed_by_target p (Some q) = Some (q ++ target_part p)
 
 -- Theorem (proofs/TailLaws.antt): a legal path has the prefixes, among ends, that its own part has.
 abbrev pub PrefixOfOwnPart : Type 0

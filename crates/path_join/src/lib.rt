@@ -112,7 +112,7 @@ fn has_separator(k: usize, at: usize, text: &[u8]) -> bool
 
 // Writes the new prefix followed by the remainder after the old prefix if it fits; otherwise writes
 // nothing.
-pub fn join(old: &[u8], new: &[u8], remainder: &[u8], out: &mut [u8]) -> text::Fit
+pub fn join(old: &[u8], new: &[u8], remainder: &[u8], out: &mut [u8]) -> Option<usize>
     ensures value { result ≡ fit_of (join old.now new.now remainder.now) out.old }
     ensures out_after { out.new ≡ written_if_fits 0 (join old.now new.now remainder.now)
         out.old }
@@ -124,12 +124,12 @@ pub fn join(old: &[u8], new: &[u8], remainder: &[u8], out: &mut [u8]) -> text::F
     let at = n + layout.separator;
     let len = at + body.len();
     if out.len() < len {
-        return text::Fit::Over;
+        return None;
     }
     text::write_at(new, 0, out);
     write_separator(layout.separator, n, out);
     text::write_at(body, at, out);
-    text::Fit::Written(len)
+    Some(len)
 }
 
 // Returns whether the text is what `join` would write, without writing it.

@@ -1,8 +1,8 @@
 -- The ancestors of legal paths: they are legal, they end at `/` or the empty path, and there are at most 128 of them.
+use Rattle.std.specs.Prelude.{Option, Some, None}
 use mathlib.Core.Path.{◌≡◌, refl, sym, ap, ◌∙◌}
 use mathlib.Core.Bool.{Bool, true, false, cond, true≢false, false≢true}
 use mathlib.Core.List.{List, [], ◌∷◌, ◌++◌}
-use mathlib.Core.Option.{Option, none, some}
 use Prim.Native.Nat.{ℕ, zero, suc, ◌+◌, ◌-◌, ◌*◌, ◌≤◌, ◌<◌}
 use native.Mathlib.Omega.{arith}
 use lib.Dec.{eqb}
@@ -90,7 +90,7 @@ in_end (suc k) p e l = go (has_parent p) refl (λ q. in_end k q)
     go true h ih = rw (ancestors_some k p h, furthest_on p k q) (ih q (parent_take p e) (omega (arith, parent_less p e h)))
     go false h ih = rw (ancestors_none (suc k) p h) h
 
-pub ancestors_end : (p : Text) → legal p ≡ true → parent (furthest (ancestors p)) ≡ none
+pub ancestors_end : (p : Text) → legal p ≡ true → parent (furthest (ancestors p)) ≡ None
 unfolding ancestors parent
 ancestors_end p e = rw (in_end (length p - 1) p e (omega arith))
 
@@ -208,10 +208,10 @@ in_most (suc k) r e = go (last_part_start r) refl (λ x. in_most k x)
     go : (o : Option ℕ) → last_part_start r ≡ o
         → ((x : Text) → accept (run Slash x) ≡ true → 2 * length (ancestors_within k (47 ∷ x)) + weight (run Slash x) ≤ length x + 4)
         → 2 * length (ancestors_within (suc k) (47 ∷ r)) + weight (run Slash r) ≤ length r + 4
-    go none h ih = rw (onwards none h, ancestors_none k (47 ∷ []) refl) (omega (arith, weight_run Slash r))
-    go (some j) h ih =
+    go None h ih = rw (onwards None h, ancestors_none k (47 ∷ []) refl) (omega (arith, weight_run Slash r))
+    go (Some j) h ih =
         let l = last r j h in
-        rw (onwards (some j) h) (omega (arith, ih (take j r) (last_legal Slash l e), falls Slash l e, length-take j r))
+        rw (onwards (Some j) h) (omega (arith, ih (take j r) (last_legal Slash l e), falls Slash l e, length-take j r))
 
 own_most : (k : ℕ) (p : Text) → legal_own p ≡ true → 2 * length (ancestors_within k p) ≤ length p + 2
 own_most k p e = go (shape p (own_scan p e))

@@ -1,18 +1,17 @@
 -- Lemmas for the branches of the functions that strip selections.
+use Rattle.std.specs.Prelude.{Some, None}
 use mathlib.Core.Path.{◌≡◌, refl, sym, ap, ◌∙◌}
 use mathlib.Core.Logic.{◌≢◌}
-use mathlib.Core.Bool.{Bool, true, false, not}
+use mathlib.Core.Bool.{Bool, true, false}
 use mathlib.Core.List.{[], ◌∷◌, ◌++◌, append_assoc, append-nil}
 use Prim.Native.Nat.{ℕ, ◌+◌, ◌-◌, ◌≤◌, ◌<◌}
 use native.Mathlib.Nat.{add-zero}
 use native.Mathlib.Numerals.{add-one}
 use native.Mathlib.Omega.{arith}
-use lib.Dec.{eqb}
 use lib.ListN.{length, get_or, set, take, drop, length-append, length-drop, drop_of_length-le}
 use lib.Seq.{set_split, drop-cons, length-take-le}
 use borrow.Author.Tests.{le-leb, lt-leb, ne_eqb}
 use Rattle.text.specs.Text.{Text, written, written_at, written_if_fits}
-use Rattle.text.specs.declared.Fit.TheVariants.{Written, Over}
 use Rattle.text.proofs.BoolLaws.{told}
 use Rattle.path_grammar.specs.Own.{own_part, target_part}
 use Rattle.path_grammar.proofs.OwnLaws.{own_length, own_slice, target_slice}
@@ -20,13 +19,6 @@ use Rattle.path_parts.specs.Parent.{starts_name_after}
 use Rattle.path_parts.specs.Strip.{stripped_byte, inside_after, strip_from, strip, strip_fit, strip_buffer}
 use Rattle.path_parts.proofs.StripLaws.{piece_short, from_shorter}
 use Rattle.text.proofs.WriteLaws.{over_written, over_none, placed_next, rest_whole}
-
--- Lemmas for `inside_changes`.
-pub inside_inside : (m : Bool) (a : ℕ) → m ≡ true → not (eqb a 125) ≡ inside_after m a
-inside_inside m a h = rw h
-
-pub inside_outside : (m : Bool) (a : ℕ) → m ≡ false → eqb a 123 ≡ inside_after m a
-inside_outside m a h = rw h
 
 -- Lemmas for `emit`.
 over_one : (j b : ℕ) (out : Text) → j < length out → set out j b ≡ written_at j (b ∷ []) out
@@ -75,7 +67,7 @@ module _ (m : Bool) (a : ℕ) (r out : Text) (j : ℕ) where
     pub itself_over : a ≢ 123 → j < length out → set out j a ≡ written_at j (stripped_byte m a r) out
     itself_over h l = rw (piece_itself h) (over_one j a out l)
 
-pub ruleset emits = (inside_inside, inside_outside, slash_long, slash_over, inside_long, inside_over, open_long, open_over, itself_long, itself_over)
+pub ruleset emits = (slash_long, slash_over, inside_long, inside_over, open_long, open_over, itself_long, itself_over)
 
 -- The loop invariant of `strip_own`: what has been written, and what remains to be written.
 pub record Sofar (p out₀ out : Text) (m : Bool) (i j : ℕ) : Type 0 where
@@ -126,7 +118,7 @@ pub ruleset strips = (sofar_begin, sofar_on, place_on, sofar_long, sofar_end)
 
 -- Lemmas for `strip_into`.
 module _ (p d : Text) (h : length d < length p) where
-  pub strip_over : Over ≡ strip_fit p d
+  pub strip_over : None ≡ strip_fit p d
   unfolding strip_fit
   strip_over = rw (lt-leb (length p) (length d) h)
 
@@ -163,9 +155,9 @@ module _ (p o d : Text) (w : o ≡ own_part p) (l : length p ≤ length d) where
     strip_long : length p - (length o - j) ≡ length (strip_from false (take (length o) p) ++ target_part p)
     strip_long = rw (length-append (strip_from false (take (length o) p)) (target_part p)) (omega (arith, own_long, strip_less))
 
-    pub strip_fits : Written (length p - (length o - j)) ≡ strip_fit p d
+    pub strip_fits : Some (length p - (length o - j)) ≡ strip_fit p d
     unfolding strip_fit strip
-    strip_fits = rw (le-leb (length p) (length d) l, ← cut_is) (ap Written strip_long)
+    strip_fits = rw (le-leb (length p) (length d) l, ← cut_is) (ap Some strip_long)
 
     pub strip_done : (mem out : Text) → mem ≡ written (strip_from false (take (length o) p)) d → out ≡ written_if_fits j (take (length p - length o) (drop (length o) p)) mem
         → out ≡ strip_buffer p d

@@ -1,8 +1,8 @@
 -- Lemmas about where the last part of a text begins, and about the text before it.
+use Rattle.std.specs.Prelude.{Option, Some, None}
 use mathlib.Core.Path.{◌≡◌, refl, sym, ap, ◌∙◌}
 use mathlib.Core.Bool.{Bool, true, false, cond, true≢false, false≢true}
 use mathlib.Core.List.{[], ◌∷◌, ◌++◌}
-use mathlib.Core.Option.{Option, none, some}
 use Prim.Native.Nat.{ℕ, suc, ◌<◌}
 use native.Mathlib.Omega.{arith}
 use lib.Dec.{eqb, leb}
@@ -18,7 +18,7 @@ use Rattle.path_parts.proofs.ReadLaws.{choose, dies, closes}
 use Rattle.path_grammar.proofs.LegalLaws.{start_cont}
 
 -- `none` is not `some`
-pub no_part : {k : ℕ} → none ≡ some k → ⊥
+pub no_part : {k : ℕ} → None ≡ Some k → ⊥
 no_part {k} e = let z : ◌≡◌ {A = ℕ} 0 1 = cc in omega arith
 
 -- The last part of a text begins at its first byte, directly after that, or later.
@@ -27,19 +27,19 @@ pub data Last : Text → ℕ → Type 0 where
   after : (a : ℕ) (r : Text) → starts_name_after a r ≡ true → Last (a ∷ r) 1
   beyond : (a : ℕ) {r : Text} {k : ℕ} → Last r k → Last (a ∷ r) (suc k)
 
-pub last : (r : Text) (k : ℕ) → last_part_start r ≡ some k → Last r k
+pub last : (r : Text) (k : ℕ) → last_part_start r ≡ Some k → Last r k
 unfolding last_part_start
 last [] k e = absurd (no_part e)
 last (a ∷ r) k e = go (last_part_start r) refl (λ j. last r j)
   where
-    first : (b c : Bool) → starts_part a r ≡ b → starts_name_after a r ≡ c → cond b (some 0) (cond c (some 1) none) ≡ some k → Last (a ∷ r) k
+    first : (b c : Bool) → starts_part a r ≡ b → starts_name_after a r ≡ c → cond b (Some 0) (cond c (Some 1) None) ≡ Some k → Last (a ∷ r) k
     first true c f g h = let z : k ≡ 0 = cc in rw z (here a r f)
     first false true f g h = let z : k ≡ 1 = cc in rw z (after a r g)
     first false false f g h = absurd (no_part h)
 
-    go : (o : Option ℕ) → last_part_start r ≡ o → ((j : ℕ) → last_part_start r ≡ some j → Last r j) → Last (a ∷ r) k
-    go none h ih = first (starts_part a r) (starts_name_after a r) refl refl (rw h at e)
-    go (some j) h ih = let z : k ≡ suc j = cc in rw z (beyond a (ih j h))
+    go : (o : Option ℕ) → last_part_start r ≡ o → ((j : ℕ) → last_part_start r ≡ Some j → Last r j) → Last (a ∷ r) k
+    go None h ih = first (starts_part a r) (starts_name_after a r) refl refl (rw h at e)
+    go (Some j) h ih = let z : k ≡ suc j = cc in rw z (beyond a (ih j h))
 
 -- The bytes at which a part begins.
 pub begins_byte : (P : ℕ → Type 0) → P 47 → P 123 → P 46 → (a : ℕ) (r : Text) → starts_part a r ≡ true → P a
@@ -113,35 +113,35 @@ last_allowed u (beyond a {r} {k} l) e = reads_byte u a (take k r) ∙ go (next u
   where
     go : (n : Option Reading) → allowed_after n r ≡ true → ((v : Reading) → allowed_from v r ≡ true → allowed_from v (take k r) ≡ true)
         → allowed_after n (take k r) ≡ true
-    go none f ih = f
-    go (some v) f ih = ih v f
+    go None f ih = f
+    go (Some v) f ih = ih v f
 
 -- After a slash, the last part is that of the following text, or else it begins at the slash.
 abbrev after_slash : Option ℕ → ℕ
-after_slash none = 0
-after_slash (some k) = suc k
+after_slash None = 0
+after_slash (Some k) = suc k
 
-pub slash_part : (r : Text) → accept (run Slash r) ≡ true → last_part_start (47 ∷ r) ≡ some (after_slash (last_part_start r))
+pub slash_part : (r : Text) → accept (run Slash r) ≡ true → last_part_start (47 ∷ r) ≡ Some (after_slash (last_part_start r))
 unfolding last_part_start run accept
 slash_part [] e = absurd (false≢true e)
 slash_part (b ∷ r) e = go (last_part_start (b ∷ r)) refl
   where
-    go : (o : Option ℕ) → last_part_start (b ∷ r) ≡ o → last_part_start (47 ∷ b ∷ r) ≡ some (after_slash o)
-    go none h = rw h
-    go (some k) h = rw h
+    go : (o : Option ℕ) → last_part_start (b ∷ r) ≡ o → last_part_start (47 ∷ b ∷ r) ≡ Some (after_slash o)
+    go None h = rw h
+    go (Some k) h = rw h
 
 -- So the parent of a path without brackets is the slash and the text before that part.
 abbrev pub before : Option ℕ → ℕ
-before none = 0
-before (some k) = k
+before None = 0
+before (Some k) = k
 
 pub slash_len : (r : Text) → accept (run Slash r) ≡ true → own_parent_len (47 ∷ r) ≡ suc (before (last_part_start r))
 unfolding own_parent_len
 slash_len r e = ap parent_end (slash_part r e) ∙ go (last_part_start r)
   where
-    go : (o : Option ℕ) → parent_end (some (after_slash o)) ≡ suc (before o)
-    go none = refl
-    go (some k) = refl
+    go : (o : Option ℕ) → parent_end (Some (after_slash o)) ≡ suc (before o)
+    go None = refl
+    go (Some k) = refl
 
 pub before_lt : (r : Text) → accept (run Slash r) ≡ true → before (last_part_start r) < length r
 unfolding run accept
@@ -149,25 +149,25 @@ before_lt [] e = absurd (false≢true e)
 before_lt (b ∷ r) e = go (last_part_start (b ∷ r)) refl
   where
     go : (o : Option ℕ) → last_part_start (b ∷ r) ≡ o → before o < suc (length r)
-    go none h = omega arith
-    go (some k) h = last_lt (last (b ∷ r) k h)
+    go None h = omega arith
+    go (Some k) h = last_lt (last (b ∷ r) k h)
 
 -- No part begins at a byte of a name.
-pub name_part : (a : ℕ) (r : Text) → is_name_byte a ≡ true → part_offset a r ≡ none
+pub name_part : (a : ℕ) (r : Text) → is_name_byte a ≡ true → part_offset a r ≡ None
 unfolding part_offset is_name_byte
 name_part a r h = go (starts_part a r) (starts_name_after a r) refl refl
   where
-    go : (b c : Bool) → starts_part a r ≡ b → starts_name_after a r ≡ c → part_offset a r ≡ none
+    go : (b c : Bool) → starts_part a r ≡ b → starts_name_after a r ≡ c → part_offset a r ≡ None
     go true c f g = absurd (true≢false (sym h ∙ begins_byte (λ (x : ℕ). is_name_byte x ≡ false) refl refl refl a r f))
     go false true f g = absurd (true≢false (sym h ∙ ap is_name_byte (after_byte a r g)))
     go false false f g = rw (f, g)
 
-pub none_on : (a : ℕ) (r : Text) → part_offset a r ≡ none → last_part_start r ≡ none → last_part_start (a ∷ r) ≡ none
+pub none_on : (a : ℕ) (r : Text) → part_offset a r ≡ None → last_part_start r ≡ None → last_part_start (a ∷ r) ≡ None
 unfolding last_part_start
 none_on a r f g = rw (g, f)
 
 -- No part begins in a property, either at a byte of a name or at a `:`.
-property_part : (r : Text) → (accept (run Prop r) ≡ true → last_part_start r ≡ none) × (accept (run Dot r) ≡ true → last_part_start r ≡ none)
+property_part : (r : Text) → (accept (run Prop r) ≡ true → last_part_start r ≡ None) × (accept (run Dot r) ≡ true → last_part_start r ≡ None)
 unfolding run step last_part_start
 property_part [] = (λ e. refl, λ e. refl)
 property_part (a ∷ r) = (
@@ -177,7 +177,7 @@ property_part (a ∷ r) = (
 )
 
 -- So the last part of a property path begins at its dot.
-dot_last : (s : ScanState) (r : Text) → accept (run (step s 46) r) ≡ true → last_part_start r ≡ none
+dot_last : (s : ScanState) (r : Text) → accept (run (step s 46) r) ≡ true → last_part_start r ≡ None
 unfolding step
 dot_last Slash r e = dies r e
 dot_last Name r e = (property_part r).1 e
@@ -192,7 +192,7 @@ dot_last Dead r e = dies r e
 
 pub record Dotted (r : Text) : Type 0 where
   pub at : ℕ
-  pub part : last_part_start r ≡ some at
+  pub part : last_part_start r ≡ Some at
   pub joins : r ≡ take at r ++ 46 ∷ drop (suc at) r
 
 pub dotted : (s : ScanState) (r : Text) → accept (run s r) ≡ true → lacks_byte 46 r ≡ false → Dotted r

@@ -1,8 +1,8 @@
 -- Lemmas about parents and prim paths of legal paths.
+use Rattle.std.specs.Prelude.{Option, Some, None}
 use mathlib.Core.Path.{◌≡◌, refl, sym, ap, ◌∙◌}
 use mathlib.Core.Bool.{Bool, true, false, not, cond, ◌||◌, true≢false, false≢true}
 use mathlib.Core.List.{[], ◌∷◌, ◌++◌}
-use mathlib.Core.Option.{Option, none, some}
 use Prim.Native.Nat.{ℕ, zero, suc, ◌≤◌, ◌<◌}
 use native.Mathlib.Omega.{arith}
 use lib.ListN.{length, take, drop, length-take, length-append}
@@ -27,9 +27,9 @@ unfolding own_parent_len
 own_parent_len_le p = go (last_part_start p) refl
   where
     go : (o : Option ℕ) → last_part_start p ≡ o → parent_end o ≤ length p
-    go none h = omega arith
-    go (some zero) h = last_lt (last p zero h)
-    go (some (suc k)) h = omega (arith, last_lt (last p (suc k) h))
+    go None h = omega arith
+    go (Some zero) h = last_lt (last p zero h)
+    go (Some (suc k)) h = omega (arith, last_lt (last p (suc k) h))
 
 pub parent_len_le : (p : Text) → parent_len p ≤ length p
 unfolding parent_len
@@ -57,15 +57,15 @@ unfolding scan_accepts
 slash_legal r e = rw (slash_len r e) (go (last_part_start r) refl)
   where
     go : (o : Option ℕ) → last_part_start r ≡ o → scan_accepts (47 ∷ take (before o) r) ≡ true
-    go none h = refl
-    go (some k) h = or_right (is_nil (take k r)) (accept (run Slash (take k r))) (last_legal Slash (last r k h) e)
+    go None h = refl
+    go (Some k) h = or_right (is_nil (take k r)) (accept (run Slash (take k r))) (last_legal Slash (last r k h) e)
 
 slash_allowed : (r : Text) → accept (run Slash r) ≡ true → characters_allowed (47 ∷ r) ≡ true → characters_allowed (take (own_parent_len (47 ∷ r)) (47 ∷ r)) ≡ true
 slash_allowed r e f = rw (slash_len r e) (go (last_part_start r) refl)
   where
     go : (o : Option ℕ) → last_part_start r ≡ o → characters_allowed (47 ∷ take (before o) r) ≡ true
-    go none h = allowed_ascii 47 refl [] ∙ allowed_none
-    go (some k) h =
+    go None h = allowed_ascii 47 refl [] ∙ allowed_none
+    go (Some k) h =
         allowed_ascii 47 refl (take k r) ∙ allowed_from_lem (take k r)
         ∙ last_allowed Between (last r k h) (sym (allowed_from_lem r) ∙ sym (allowed_ascii 47 refl r) ∙ f)
 
@@ -124,7 +124,7 @@ module _ (p : Text) (e : legal p ≡ true) where
       go false h = let w = parent_unclosed h in rw w.0 (own_parent_less p w.1 n)
 
 -- The parent is that text.
-pub parent_is : (p q : Text) → parent p ≡ some q → (has_parent p ≡ true) × (q ≡ take (parent_len p) p)
+pub parent_is : (p q : Text) → parent p ≡ Some q → (has_parent p ≡ true) × (q ≡ take (parent_len p) p)
 unfolding parent
 parent_is p q e = go (has_parent p) refl
   where
@@ -132,10 +132,10 @@ parent_is p q e = go (has_parent p) refl
     go true h = (h, cc (rw h at e))
     go false h = absurd (no_text (rw h at e))
 
-pub parent_legal : (p q : Text) → legal p ≡ true → parent p ≡ some q → legal q ≡ true
+pub parent_legal : (p q : Text) → legal p ≡ true → parent p ≡ Some q → legal q ≡ true
 parent_legal p q e f = rw (parent_is p q f).1 (parent_take p e)
 
-pub parent_shorter : (p q : Text) → legal p ≡ true → parent p ≡ some q → length q < length p
+pub parent_shorter : (p q : Text) → legal p ≡ true → parent p ≡ Some q → length q < length p
 parent_shorter p q e f = rw (parent_is p q f).1 (parent_less p e (parent_is p q f).0)
 
 -- Lemmas about prim paths.

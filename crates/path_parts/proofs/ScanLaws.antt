@@ -1,7 +1,7 @@
 -- Lemmas for the branches of the functions that go from parent to parent.
+use Rattle.std.specs.Prelude.{Some, None}
 use mathlib.Core.Path.{◌≡◌, refl, sym, ap, ◌∙◌}
-use mathlib.Core.Logic.{◌≢◌}
-use mathlib.Core.Bool.{Bool, true, false, not}
+use mathlib.Core.Bool.{Bool, true, false}
 use mathlib.Core.List.{List, [], ◌∷◌, map}
 use Prim.Native.Nat.{ℕ, zero, suc, ◌+◌, ◌-◌, ◌≤◌, ◌<◌}
 use native.Mathlib.Omega.{arith}
@@ -10,24 +10,11 @@ use lib.ListN.{length, get_or, set, take, drop, length-take, length-drop}
 use lib.Seq.{paste, take-take, take-length, length-take-le, drop-drop, drop-cons}
 use borrow.Author.Tests.{le-leb, lt-leb}
 use Rattle.text.specs.Text.{Text, fit_of, written_if_fits}
-use Rattle.text.specs.declared.Fit.TheVariants.{Written, Over}
 use Rattle.text.proofs.WriteLaws.{put_begin, put_on, put_length, put_end, put_over}
-use Rattle.text.proofs.BoolLaws.{known_false, known_true}
-use Rattle.path_grammar.specs.Legal.{is_root}
+use Rattle.text.proofs.BoolLaws.{told}
 use Rattle.path_parts.specs.Parent.{parent_len, has_parent, ancestors_within, ancestors, ancestor_lens}
 use Rattle.path_parts.proofs.ParentLaws.{parent_len_le}
 use Rattle.path_parts.proofs.AncestorLaws.{lens_count, ancestors_none, ancestors_least, ancestors_some}
-
--- Lemmas for `has_parent`.
-pub parent_of_nil : (p : Text) → length p ≡ 0 → false ≡ has_parent p
-parent_of_nil [] h = refl
-parent_of_nil (a ∷ p) h = absurd (omega arith)
-
-pub parent_of_text : (p : Text) (b : Bool) → length p ≢ 0 → b ≡ is_root p → not b ≡ has_parent p
-parent_of_text [] b h e = absurd (h refl)
-parent_of_text (a ∷ p) b h e = ap not e
-
-pub ruleset having = (parent_of_nil, parent_of_text)
 
 -- The parent of a prefix of p is a prefix of p.
 take_parent : (p : Text) (n m : ℕ) → n ≤ length p → m ≡ parent_len (take n p) → take m p ≡ take (parent_len (take n p)) (take n p)
@@ -48,18 +35,18 @@ unfolding ancestors
 count_begin p = rw take-length
 
 module _ (p : Text) (n count : ℕ) (i : 1 + length (ancestors p) ≡ count + length (ancestors_within (length p - count) (take n p))) where
-  pub count_done : (b : Bool) → b ≡ has_parent (take n p) → not b ≡ true → count ≡ length (ancestors p)
-  count_done b f t = omega (arith, rw (ancestors_none (length p - count) (take n p) (known_false f t)) at i)
+  pub count_done : (b : Bool) → b ≡ has_parent (take n p) → b ≡ false → count ≡ length (ancestors p)
+  count_done b f t = omega (arith, rw (ancestors_none (length p - count) (take n p) (told f t)) at i)
 
   pub count_end : length p ≤ count → count ≡ length (ancestors p)
   unfolding ancestors_within
   count_end h = let z : length p - count ≡ 0 = omega arith in omega (arith, rw z at i)
 
-  pub count_on : (b : Bool) (m : ℕ) → n ≤ length p → count < length p → b ≡ has_parent (take n p) → not b ≡ false → m ≡ parent_len (take n p)
+  pub count_on : (b : Bool) (m : ℕ) → n ≤ length p → count < length p → b ≡ has_parent (take n p) → b ≡ true → m ≡ parent_len (take n p)
       → 1 + length (ancestors p) ≡ count + 1 + length (ancestors_within (length p - (count + 1)) (take m p))
   count_on b m h l f t e =
       let z : length p - count ≡ suc (length p - (count + 1)) = omega arith in
-      rw (take_parent p n m h e) (omega (arith, rw (z, ancestors_some (length p - (count + 1)) (take n p) (known_true f t)) at i))
+      rw (take_parent p n m h e) (omega (arith, rw (z, ancestors_some (length p - (count + 1)) (take n p) (told f t)) at i))
 
 pub ruleset counts = (parent_inside, beginning_long, count_begin, count_done, count_end, count_on)
 
@@ -106,7 +93,7 @@ ahead_first p i n a l h =
     ∙ length-take-le n p l
 
 module _ (p d : Text) (count : ℕ) (c : count ≡ length (ancestors p)) where
-  pub lens_over : length d < count → Over ≡ fit_of (ancestor_lens p) d
+  pub lens_over : length d < count → None ≡ fit_of (ancestor_lens p) d
   unfolding fit_of
   lens_over h = rw (lens_count p, ← c, lt-leb count (length d) h)
 
@@ -122,7 +109,7 @@ module _ (p d : Text) (count : ℕ) (c : count ≡ length (ancestors p)) where
     pub lens_end : count ≤ i → i ≤ count → now ≡ written_if_fits 0 (ancestor_lens p) d
     lens_end h k = put_end d (ancestor_lens p) now 0 i (omega arith) (rw (lens_count p, ← c, sub-zero) g) (rw (lens_count p, ← c) h) (rw (lens_count p, ← c) k) e
 
-  pub lens_fit : count ≤ length d → Written count ≡ fit_of (ancestor_lens p) d
+  pub lens_fit : count ≤ length d → Some count ≡ fit_of (ancestor_lens p) d
   unfolding fit_of
   lens_fit g = rw (lens_count p, ← c, le-leb count (length d) g)
 

@@ -1,5 +1,6 @@
 -- Lemmas about stripping selections: the result is no longer than the text, is legal if the text is, and has no selection; a text without
 -- selections is unchanged. If the buffer has capacity for the text, it holds the stripped one.
+use Rattle.std.specs.Prelude.{Option, Some, None}
 use mathlib.Core.Path.{◌≡◌, refl, sym, ap, ◌∙◌}
 use mathlib.Core.Bool.{Bool, true, false, not, cond, false≢true}
 use mathlib.Core.List.{[], ◌∷◌, ◌++◌}
@@ -9,12 +10,9 @@ use lib.Dec.{eqb}
 use lib.ListN.{length, take, length-append, length-take}
 use borrow.Author.Tests.{eqb-true, le-leb}
 use Rattle.text.specs.Text.{Text, is_nil, lacks_byte, written}
-use Rattle.text.specs.declared.Fit.{Fit}
-use Rattle.text.specs.declared.Fit.TheVariants.{Written, Over}
 use Rattle.text.proofs.BoolLaws.{and_yes, or_right}
 use Rattle.text.proofs.TextLaws.{lacks_append, lacks_first, lacks_rest, lacks_join}
 use Rattle.text.proofs.WriteLaws.{read_back}
-use mathlib.Core.Option.{Option, none, some}
 use Rattle.characters.specs.Utf8.{Reading, Between}
 use Rattle.characters.specs.NameCharacter.{characters_allowed}
 use Rattle.characters.proofs.ReadingLaws.{allowed_from, next, allowed_after, reads_byte, nothing_read, ascii_read, ascii_here}
@@ -286,12 +284,12 @@ abbrev beside_reader : Bool → Reading → Reading
 beside_reader true u = Between
 beside_reader false u = u
 
-read_on : (u : Reading) (a : ℕ) (r : Text) {G : Type 0} → allowed_from u (a ∷ r) ≡ true → ((v : Reading) → next u a ≡ some v → allowed_from v r ≡ true → G) → G
+read_on : (u : Reading) (a : ℕ) (r : Text) {G : Type 0} → allowed_from u (a ∷ r) ≡ true → ((v : Reading) → next u a ≡ Some v → allowed_from v r ≡ true → G) → G
 read_on u a r {G} e k = go (next u a) refl (sym (reads_byte u a r) ∙ e)
   where
     go : (n : Option Reading) → next u a ≡ n → allowed_after n r ≡ true → G
-    go none h f = absurd (false≢true f)
-    go (some v) h f = k v h f
+    go None h f = absurd (false≢true f)
+    go (Some v) h f = k v h f
 
 strip_reads : (m : Bool) (u : Reading) (r : Text) → allowed_from u r ≡ true → allowed_from (beside_reader m u) (strip_from m r) ≡ true
 unfolding strip_from stripped_byte starts_name_after
@@ -336,17 +334,17 @@ strip_legal p e =
     ∙ ap legal_own (strip_own p) ∙ w.0
 
 -- Stripping into a buffer with capacity for the whole text.
-module _ (p out : Text) (f : Fit) (room : length p ≤ length out) (h : f ≡ strip_fit p out) where
-  fit_strip : f ≡ Written (length (strip p))
+module _ (p out : Text) (f : Option ℕ) (room : length p ≤ length out) (h : f ≡ strip_fit p out) where
+  fit_strip : f ≡ Some (length (strip p))
   unfolding strip_fit
   fit_strip = h ∙ rw (le-leb (length p) (length out) room) refl
 
-  pub strip_never : f ≡ Over → ⊥
-  strip_never e = let x : Over ≡ Written (length (strip p)) = sym e ∙ fit_strip in let z : ◌≡◌ {A = ℕ} 0 1 = cc in omega arith
+  pub strip_never : f ≡ None → ⊥
+  strip_never e = let x : None ≡ Some (length (strip p)) = sym e ∙ fit_strip in let z : ◌≡◌ {A = ℕ} 0 1 = cc in omega arith
 
-  module _ (n : ℕ) (e : f ≡ Written n) where
+  module _ (n : ℕ) (e : f ≡ Some n) where
     pub strip_length : n ≡ length (strip p)
-    strip_length = let x : Written n ≡ Written (length (strip p)) = sym e ∙ fit_strip in cc
+    strip_length = let x : Some n ≡ Some (length (strip p)) = sym e ∙ fit_strip in cc
 
     module _ (mem : Text) (m : mem ≡ strip_buffer p out) where
       pub strip_memory : mem ≡ written (strip p) out

@@ -1,7 +1,6 @@
 -- Meaning: Parents, prim paths, properties and ancestors. All of them are prefixes of the path's text. OpenUSD: SdfPath::GetParentPath,
 -- GetPrimPath, GetAncestorsRange.
-use Rattle.std.specs.Prelude.{ℕ, zero, suc, ◌-◌, Bool, not, cond, ◌&&◌, ◌||◌, List, [], ◌∷◌, map, eqb, length, take}
-use Rattle.std.proofs.Math.Option.{Option, none, some}
+use Rattle.std.specs.Prelude.{ℕ, zero, suc, ◌-◌, Bool, not, cond, ◌&&◌, ◌||◌, List, [], ◌∷◌, map, eqb, length, take, Option, Some, None}
 use Rattle.text.specs.Text.{Text, is_nil, ends_with_byte}
 use Rattle.text.specs.Bytes.{close_brace, close_bracket, dot, open_brace, slash}
 use Rattle.path_grammar.specs.Own.{own_part, target_part, has_property}
@@ -19,25 +18,25 @@ starts_name_after a r = eqb a close_brace && starts_name r
 -- The offset from the byte a at which a part begins: 0, 1 or none.
 unfoldable pub part_offset : ℕ → Text → Option ℕ
 unfolding starts_part starts_name_after
-part_offset a r = cond (starts_part a r) (some 0) (cond (starts_name_after a r) (some 1) none)
+part_offset a r = cond (starts_part a r) (Some 0) (cond (starts_name_after a r) (Some 1) None)
 
 -- The second index, counted from the next byte, if there is one; otherwise the first.
 abbrev pub later_offset : Option ℕ → Option ℕ → Option ℕ
-later_offset x none = x
-later_offset x (some k) = some (suc k)
+later_offset x None = x
+later_offset x (Some k) = Some (suc k)
 
 -- The index at which the last part of a text begins.
 unfoldable pub last_part_start : Text → Option ℕ
 unfolding part_offset
-last_part_start [] = none
+last_part_start [] = None
 last_part_start (a ∷ r) = later_offset (part_offset a r) (last_part_start r)
 
 -- The length of the parent, given the index of the last part: the parent is the text before the last part, or the first byte, `/`, if
 -- nothing precedes it.
 abbrev pub parent_end : Option ℕ → ℕ
-parent_end none = 0
-parent_end (some zero) = 1
-parent_end (some (suc k)) = suc k
+parent_end None = 0
+parent_end (Some zero) = 1
+parent_end (Some (suc k)) = suc k
 
 -- The length of the parent of a path without brackets.
 unfoldable pub own_parent_len : Text → ℕ
@@ -57,7 +56,7 @@ has_parent p = not (is_nil p || is_root p)
 -- have none."
 unfoldable pub parent : Text → Option Text
 unfolding parent_len
-parent p = cond (has_parent p) (some (take (parent_len p) p)) none
+parent p = cond (has_parent p) (Some (take (parent_len p) p)) None
 
 -- The path is a property path (Rust: is_property): it ends in its property. A path with a target in brackets has a property and is none.
 unfoldable pub is_property : Text → Bool
@@ -78,12 +77,12 @@ prim_path p = take (prim_len p) p
 -- property it gives no path."
 unfoldable pub split_property : Text → Option Text
 unfolding prim_path is_property
-split_property p = cond (is_property p) (some (prim_path p)) none
+split_property p = cond (is_property p) (Some (prim_path p)) None
 
 -- The list that `go` yields for a path, or the empty list if there is no path.
 abbrev pub ancestors_from : (Text → List Text) → Option Text → List Text
-ancestors_from go none = []
-ancestors_from go (some q) = go q
+ancestors_from go None = []
+ancestors_from go (Some q) = go q
 
 -- The path and then parent after parent, at most n of them.
 unfoldable pub ancestors_within : ℕ → Text → List Text

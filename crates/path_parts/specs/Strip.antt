@@ -1,8 +1,6 @@
 -- Meaning: The removal of variant selections: `/A{v=p}B.c` becomes `/A/B.c`. OpenUSD: SdfPath::StripAllVariantSelections.
-use Rattle.std.specs.Prelude.{ℕ, Bool, true, false, not, cond, [], ◌∷◌, ◌++◌, eqb, leb, length}
+use Rattle.std.specs.Prelude.{ℕ, Bool, true, false, not, cond, [], ◌∷◌, ◌++◌, eqb, leb, length, Option, Some, None}
 use Rattle.text.specs.Text.{Text, written}
-use Rattle.text.specs.declared.Fit.{Fit}
-use Rattle.text.specs.declared.Fit.TheVariants.{Written, Over}
 use Rattle.text.specs.Bytes.{close_brace, open_brace, slash}
 use Rattle.path_grammar.specs.Own.{own_part, target_part}
 use Rattle.path_parts.specs.Parent.{starts_name_after}
@@ -32,8 +30,8 @@ unfolding strip_from own_part target_part
 strip p = strip_from false (own_part p) ++ target_part p
 
 -- The result of writing the stripped path. The buffer must have capacity for the original path, since stripping makes no text longer.
-unfoldable pub strip_fit : Text → Text → Fit
-strip_fit p out = cond (leb (length p) (length out)) (Written (length (strip p))) Over
+unfoldable pub strip_fit : Text → Text → Option ℕ
+strip_fit p out = cond (leb (length p) (length out)) (Some (length (strip p))) None
 
 -- The buffer after stripping; unchanged if it is too short for the original path.
 unfoldable pub strip_buffer : Text → Text → Text

@@ -13,49 +13,38 @@ ghost use Rattle.path_parts.specs.Strip.{stripped_byte, inside_after, strip_from
 fn starts_name(path: &[u8], i: usize) -> bool
     ensures { result ≡ starts_name (drop i path.now) }
 {
-    if path.len() <= i {
-        return false;
-    }
-    path_grammar::is_name_byte(path[i])
+    i < path.len() && path_grammar::is_name_byte(path[i])
 }
 
 // Returns whether a part (an element or the property) begins at byte `i`.
+#[tactic(auto, using(crate::proofs::PartLaws::more_after), unfolding(crate::specs::Parent::starts_part))]
 fn starts_part(path: &[u8], i: usize) -> bool
     requires { i < length path.now }
     ensures { result ≡ starts_part (get_or path.now i 0) (drop (i + 1) path.now) }
 {
-    if path[i] == b'/' {
-        return i + 1 < path.len();
+    match path[i] {
+        b'/' => i + 1 < path.len(),
+        b'{' | b'.' => true,
+        _ => false,
     }
-    if path[i] == b'{' {
-        return true;
-    }
-    path[i] == b'.'
 }
 
 // Returns whether a part begins directly after byte `i`: a name after a selection.
+#[tactic(auto, unfolding(crate::specs::Parent::starts_name_after))]
 fn starts_name_after(path: &[u8], i: usize) -> bool
     requires { i < length path.now }
     ensures { result ≡ starts_name_after (get_or path.now i 0) (drop (i + 1) path.now) }
 {
-    if path[i] == b'}' {
-        return starts_name(path, i + 1);
-    }
-    false
+    path[i] == b'}' && starts_name(path, i + 1)
 }
 
 // The length of the parent of a path without brackets. Scans backwards to the beginning of the last part.
 fn own_parent_len(path: &[u8]) -> usize
     ensures { result ≡ own_parent_len path.now }
 {
-    let mut i = path.len();
-    while 0 < i {
-        i -= 1;
+    for i in (0..path.len()).rev() {
         if starts_part(path, i) {
-            if i == 0 {
-                return 1;
-            }
-            return i;
+            return i.max(1);
         }
         if starts_name_after(path, i) {
             return i + 1;
@@ -78,10 +67,7 @@ pub fn parent_len(path: &[u8]) -> usize
 pub fn is_property(path: &[u8]) -> bool
     ensures { result ≡ is_property path.now }
 {
-    if !text::lacks_byte(path, b'[') {
-        return false;
-    }
-    !text::lacks_byte(path, b'.')
+    text::lacks_byte(path, b'[') && !text::lacks_byte(path, b'.')
 }
 
 // The length of the path's own part without its property, or without the last selection if it ends in one.
@@ -89,10 +75,7 @@ pub fn prim_len(path: &[u8]) -> usize
     ensures { result ≡ prim_len path.now }
 {
     let own = path_own::own_part(path);
-    if !text::lacks_byte(own, b'.') {
-        return own_parent_len(own);
-    }
-    if text::last_is(own, b'}') {
+    if !text::lacks_byte(own, b'.') || text::last_is(own, b'}') {
         return own_parent_len(own);
     }
     own.len()
@@ -102,10 +85,7 @@ pub fn prim_len(path: &[u8]) -> usize
 fn has_parent(path: &[u8]) -> bool
     ensures { result ≡ has_parent path.now }
 {
-    if path.len() == 0 {
-        return false;
-    }
-    !path_grammar::is_root(path)
+    !path.is_empty() && !path_grammar::is_root(path)
 }
 
 // The number of ancestors of the path, including the path itself.
@@ -114,10 +94,8 @@ pub fn ancestor_count(path: &[u8]) -> usize
 {
     let mut n = path.len();
     let mut count = 1;
-    while count < path.len() {
-        if !has_parent(&path[..n]) {
-            return count;
-        }
+    // A `while`: `count` is the result and no index, and the text gets shorter by another length each turn.
+    while count < path.len() && has_parent(&path[..n]) {
         n = parent_len(&path[..n]);
         count += 1;
     }
@@ -126,32 +104,27 @@ pub fn ancestor_count(path: &[u8]) -> usize
 
 // Writes the lengths of the path and its ancestors if the lent slice is long enough; otherwise writes
 // nothing.
-pub fn write_ancestors(path: &[u8], out: &mut [usize]) -> text::Fit
+pub fn write_ancestors(path: &[u8], out: &mut [usize]) -> Option<usize>
     ensures value { result ≡ fit_of (ancestor_lens path.now) out.old }
     ensures out_after { out.new ≡ written_if_fits 0 (ancestor_lens path.now) out.old }
 {
     let count = ancestor_count(path);
     if out.len() < count {
-        return text::Fit::Over;
+        return None;
     }
     let mut n = path.len();
-    let mut i = 0;
-    while i < count {
+    for i in 0..count {
         out[i] = n;
         n = parent_len(&path[..n]);
-        i += 1;
     }
-    text::Fit::Written(count)
+    Some(count)
 }
 
 // Returns whether the scan is inside a selection after byte `a`.
 fn inside_changes(inside: bool, a: u8) -> bool
     ensures { result ≡ inside_after inside a }
 {
-    if inside {
-        return a != b'}';
-    }
-    a == b'{'
+    if inside { a != b'}' } else { a == b'{' }
 }
 
 // Writes the output for byte `i` of the path at index `j`, and returns the index after it.
@@ -184,27 +157,25 @@ fn strip_own(own: &[u8], out: &mut [u8]) -> usize
     ensures out_after { out.new ≡ written (strip_from false own.now) out.old }
 {
     let mut inside = false;
-    let mut i = 0;
     let mut j = 0;
-    while i < own.len() {
+    for (i, b) in own.iter().enumerate() {
         j = emit(own, i, inside, out, j);
-        inside = inside_changes(inside, own[i]);
-        i += 1;
+        inside = inside_changes(inside, *b);
     }
     j
 }
 
 // Writes the path without its selections if the buffer has capacity for the original path; otherwise
 // writes nothing. The text from the first `[` on is copied.
-pub fn strip_into(path: &[u8], out: &mut [u8]) -> text::Fit
+pub fn strip_into(path: &[u8], out: &mut [u8]) -> Option<usize>
     ensures value { result ≡ strip_fit path.now out.old }
     ensures out_after { out.new ≡ strip_buffer path.now out.old }
 {
     if out.len() < path.len() {
-        return text::Fit::Over;
+        return None;
     }
     let n = path_own::own_part(path).len();
     let j = strip_own(&path[..n], out);
     text::write_at(&path[n..], j, out);
-    text::Fit::Written(path.len() - (n - j))
+    Some(path.len() - (n - j))
 }

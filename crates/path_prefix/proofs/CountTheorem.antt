@@ -1,8 +1,8 @@
 -- The theorem that the number of elements in a path's text is the number of elements in the path.
+use Rattle.std.specs.Prelude.{Option, Some, None}
 use mathlib.Core.Path.{◌≡◌, refl, ap, ◌∙◌}
 use mathlib.Core.Bool.{Bool, true, false, cond, ◌&&◌, false≢true}
 use mathlib.Core.List.{List, [], ◌∷◌, ◌++◌, append_assoc}
-use mathlib.Core.Option.{Option, none, some}
 use Prim.Native.Nat.{ℕ, suc, ◌+◌}
 use native.Mathlib.Omega.{arith}
 use lib.Dec.{eqb}
@@ -20,8 +20,8 @@ use Rattle.path_grammar.proofs.Render.{prims_named, own_prims, own_target}
 -- The text of prims begins with a name (`prims_named`); the text of a property does not.
 property_starts : (x : Option g.Property) → starts_name (property_text x) ≡ false
 unfolding property_text is_name_byte
-property_starts none = refl
-property_starts (some x) = refl
+property_starts None = refl
+property_starts (Some x) = refl
 
 -- There are selections.
 abbrev any : List g.Selection → Bool
@@ -86,8 +86,8 @@ module _ (f : Bool) where
 
   property : (x : Option g.Property) → count_elements f (property_text x) ≡ 0
   unfolding property_text count_elements
-  property none = refl
-  property (some x) = other 46 (name_text x.first ++ more_text x.more) refl refl refl ∙ name x.first (more_text x.more) ∙ more x.more
+  property None = refl
+  property (Some x) = other 46 (name_text x.first ++ more_text x.more) refl refl refl ∙ name x.first (more_text x.more) ∙ more x.more
 
   -- What lies between two prims, with the second one's name, adds one element.
   next : (l : List g.Selection) (y : Text) → starts_name y ≡ true
@@ -129,7 +129,7 @@ absolute_counted : (f : Bool) {d : ℕ} (q : g.Absolute d) → count_elements f 
 unfolding absolute_text absolute_count count_elements own_part take_until
 absolute_counted f g.root = refl
 absolute_counted f (g.prims p r x) = ap (count_elements f) (own_prims p r x) ∙ own_counted f p r x
-absolute_counted f (g.target p r x q) = ap (count_elements f) (own_target p r x (absolute_text q)) ∙ own_counted f p r (some x)
+absolute_counted f (g.target p r x q) = ap (count_elements f) (own_target p r x (absolute_text q)) ∙ own_counted f p r (Some x)
 
 pub counted : CountsAgree
 unfolding render path_count count_elements own_part take_until

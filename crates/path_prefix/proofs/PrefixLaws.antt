@@ -1,13 +1,14 @@
 -- Lemmas about prefixes.
+use Rattle.std.specs.Prelude.{Option, Some, None}
+use Rattle.std.specs.Option.{is_some}
 use mathlib.Core.Path.{◌≡◌, refl, sym, ap, ◌∙◌}
 use mathlib.Core.Bool.{true, ◌||◌, false≢true}
 use mathlib.Core.List.{[], ◌∷◌, ◌++◌, append-nil}
-use mathlib.Core.Option.{Option, none, some}
 use Prim.Native.Nat.{ℕ, ◌≤◌}
 use lib.Dec.{eqb}
 use lib.ListN.{length, drop}
 use lib.Seq.{drop-append_seam}
-use Rattle.text.specs.Text.{Text, is_some, strip_prefix, starts_with}
+use Rattle.text.specs.Text.{Text, strip_prefix, starts_with}
 use Rattle.text.proofs.BoolLaws.{or_false}
 use Rattle.text.proofs.TextLaws.{after_up, after_down, starts_long}
 use Rattle.path_grammar.specs.Legal.{legal}
@@ -25,8 +26,8 @@ unfolding has_prefix
 prefix_rest p s h = go (strip_prefix s p) refl
   where
     go : (o : Option Text) → strip_prefix s p ≡ o → (p ≡ s ++ drop (length s) p) × (can_follow s (drop (length s) p) ≡ true)
-    go none e = absurd (false≢true (sym (ap (can_follow_some s) e) ∙ h))
-    go (some r) e =
+    go None e = absurd (false≢true (sym (ap (can_follow_some s) e) ∙ h))
+    go (Some r) e =
         let k : drop (length s) p ≡ r = rw (after_up s p r e) (drop-append_seam s r) in
         rw k (after_up s p r e, sym (ap (can_follow_some s) e) ∙ h)
 

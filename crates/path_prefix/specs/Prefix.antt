@@ -1,6 +1,5 @@
 -- Meaning: Path prefixes. OpenUSD: SdfPath::HasPrefix; unlike there, the empty path is a prefix of every path here.
-use Rattle.std.specs.Prelude.{ℕ, Bool, true, false, ◌||◌, [], ◌∷◌, eqb}
-use Rattle.std.proofs.Math.Option.{Option, none, some}
+use Rattle.std.specs.Prelude.{ℕ, Bool, true, false, ◌||◌, [], ◌∷◌, eqb, Option, Some, None}
 use Rattle.text.specs.Text.{Text, strip_prefix, ends_with_byte}
 use Rattle.text.specs.Bytes.{close_brace, dot, open_brace, slash}
 use Rattle.path_grammar.specs.Legal.{is_root}
@@ -20,8 +19,8 @@ can_follow s (a ∷ r) = is_boundary s a
 -- There is a remainder, and it may follow the prefix s.
 abbrev pub can_follow_some : Text → Option Text → Bool
 unfolding can_follow
-can_follow_some s none = false
-can_follow_some s (some r) = can_follow s r
+can_follow_some s None = false
+can_follow_some s (Some r) = can_follow s r
 
 -- The path p has the prefix s. Requirements: "equal texts; or the text begins with the prefix and the prefix is `/`, or the rest begins
 -- with `/`, `.` or `{`, or the prefix ends in `}`."

@@ -12,22 +12,14 @@ ghost use Rattle.path_prefix.specs.Prefix.{is_boundary, can_follow, has_prefix};
 pub struct Elements(pub usize);
 
 // Returns whether an element boundary lies between the prefix and a remainder that begins with byte `a`.
+#[tactic(auto, unfolding(crate::specs::Prefix::is_boundary))]
 fn is_boundary(prefix: &[u8], a: u8) -> bool
     ensures { result ≡ is_boundary prefix.now a }
 {
-    if a == b'/' {
-        return true;
+    match a {
+        b'/' | b'.' | b'{' => true,
+        _ => path_grammar::is_root(prefix) || text::last_is(prefix, b'}'),
     }
-    if a == b'.' {
-        return true;
-    }
-    if a == b'{' {
-        return true;
-    }
-    if path_grammar::is_root(prefix) {
-        return true;
-    }
-    text::last_is(prefix, b'}')
 }
 
 // Returns whether the path, after as many bytes as the prefix has, is at its end or at an element
@@ -36,10 +28,7 @@ fn ends_at_boundary(path: &[u8], prefix: &[u8]) -> bool
     ensures { result ≡ can_follow prefix.now (drop (length prefix.now) path.now) }
 {
     let n = prefix.len();
-    if path.len() <= n {
-        return true;
-    }
-    is_boundary(prefix, path[n])
+    path.len() <= n || is_boundary(prefix, path[n])
 }
 
 // Returns whether the path begins with the prefix and the prefix ends at an element boundary. The
@@ -47,10 +36,7 @@ fn ends_at_boundary(path: &[u8], prefix: &[u8]) -> bool
 pub fn has_prefix(path: &[u8], prefix: &[u8]) -> bool
     ensures { result ≡ has_prefix path.now prefix.now }
 {
-    if !ends_at_boundary(path, prefix) {
-        return false;
-    }
-    text::starts_with(path, prefix)
+    ends_at_boundary(path, prefix) && text::starts_with(path, prefix)
 }
 
 // Returns whether an element begins at index `i`; selections count only if `selections` is set.
@@ -58,29 +44,12 @@ fn starts_element(text: &[u8], i: usize, selections: bool) -> bool
     requires { i < length text.now }
     ensures { result ≡ starts_element selections (get_or text.now i 0) (drop (i + 1) text.now) }
 {
-    let a = text[i];
-    let j = i + 1;
-    if a == b'/' {
-        return j < text.len();
+    match text[i] {
+        b'/' => i + 1 < text.len(),
+        b'{' => selections,
+        b'}' => i + 1 < text.len() && path_grammar::is_name_byte(text[i + 1]),
+        _ => false,
     }
-    if a == b'{' {
-        return selections;
-    }
-    if a != b'}' {
-        return false;
-    }
-    if text.len() <= j {
-        return false;
-    }
-    path_grammar::is_name_byte(text[j])
-}
-
-// Returns n + 1 if `b` is set, otherwise n.
-fn add_if(n: usize, b: bool) -> usize
-    requires { n < 18446744073709551615 }
-    ensures { result ≡ n + cond b 1 0 }
-{
-    if b { n + 1 } else { n }
 }
 
 // Counts the elements of the text; selections count only if `selections` is set.
@@ -88,10 +57,8 @@ fn count_elements(text: &[u8], selections: bool) -> usize
     ensures { result ≡ count_elements selections text.now }
 {
     let mut n = 0;
-    let mut i = 0;
-    while i < text.len() {
-        n = add_if(n, starts_element(text, i, selections));
-        i += 1;
+    for i in 0..text.len() {
+        n += usize::from(starts_element(text, i, selections));
     }
     n
 }

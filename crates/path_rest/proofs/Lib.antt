@@ -1,5 +1,3 @@
 -- The lemmas of this crate. The proof of each function is in the folder of its name.
-mod RestBranches
-mod CarriedBranches
 pub mod RestLaws
 pub mod CarriedLaws

@@ -1,4 +1,5 @@
 -- Laws of the rest. A path is its prefix followed by the rest (`PrefixAndRest`), and what follows a text is the end of the whole.
+use Rattle.std.specs.Prelude.{Some}
 use mathlib.Core.Path.{◌≡◌, refl, sym, ap, ◌∙◌}
 use mathlib.Core.Bool.{Bool, true, false, not, cond, ◌&&◌}
 use mathlib.Core.List.{[], ◌∷◌, ◌++◌, append-nil}
@@ -12,26 +13,25 @@ use Rattle.path_grammar.specs.Legal.{is_root}
 use Rattle.path_grammar.proofs.LegalLaws.{root_is}
 use Rattle.path_prefix.specs.Prefix.{has_prefix}
 use Rattle.path_prefix.proofs.PrefixLaws.{prefix_rest, prefix_long}
-use Rattle.path_rest.specs.declared.Rest.TheVariants.{From}
 use Rattle.path_rest.specs.Rest.{rest_index, rest_start, rest_text, RestExamples, followed_by, PrefixAndRest, EndsWith}
 
 -- If s is a prefix of p, the rest begins at the index of the definition.
-pub rest_from : (p s : Text) → has_prefix p s ≡ true → rest_start p s ≡ From (rest_index p s)
+pub rest_from : (p s : Text) → has_prefix p s ≡ true → rest_start p s ≡ Some (rest_index p s)
 unfolding rest_start
 rest_from p s h = rw h
 
 -- The rest of the path p after s, unless s is `/`: the text after as many bytes as s has.
-pub rest_plain : (p s : Text) → is_root s ≡ false → rest_text p (From (rest_index p s)) ≡ drop (length s) p
+pub rest_plain : (p s : Text) → is_root s ≡ false → rest_text p (Some (rest_index p s)) ≡ drop (length s) p
 unfolding rest_text rest_index
 rest_plain p s h = rw h
 
 -- After `/` the rest of a longer text is the whole text.
-pub rest_below_root : (p s : Text) → is_root s ≡ true → is_root p ≡ false → rest_text p (From (rest_index p s)) ≡ p
+pub rest_below_root : (p s : Text) → is_root s ≡ true → is_root p ≡ false → rest_text p (Some (rest_index p s)) ≡ p
 unfolding rest_text rest_index
 rest_below_root p s h k = rw (h, k)
 
 -- The rest of a text after itself is empty.
-pub rest_of_itself : (p : Text) → rest_text p (From (rest_index p p)) ≡ []
+pub rest_of_itself : (p : Text) → rest_text p (Some (rest_index p p)) ≡ []
 unfolding rest_text rest_index
 rest_of_itself p = rw (after (is_root p)) (drop-length p)
   where
@@ -64,7 +64,7 @@ followed_ends s r = go (is_root s && not (is_nil r))
 pub prefix_and_rest : PrefixAndRest
 prefix_and_rest p s h = rw (rest_from p s h) (go (is_root s) (is_root p) refl refl)
   where
-    go : (b c : Bool) → is_root s ≡ b → is_root p ≡ c → p ≡ followed_by s (rest_text p (From (rest_index p s)))
+    go : (b c : Bool) → is_root s ≡ b → is_root p ≡ c → p ≡ followed_by s (rest_text p (Some (rest_index p s)))
     go false c k l = rw (rest_plain p s k, followed_plain s (drop (length s) p) k) (prefix_rest p s h).0
     go true true k l = rw (root_is s k, root_is p l) (sym (ap (followed_by (47 ∷ [])) (rest_of_itself (47 ∷ [])) ∙ followed_none (47 ∷ [])))
     go true false k l = rw (rest_below_root p s k l) (sym (whole p (rw (root_is s k) at (prefix_long p s h))))

@@ -1,13 +1,11 @@
 -- Meaning: The rest of a path: the part at its end that follows a prefix and is carried over unaltered when the prefix is replaced. It differs from
 -- the remainder of crates/path_join in one case: "A separating slash belongs to the rest, so under the key `/` the rest of a longer text is that
 -- whole text."
-use Rattle.std.specs.Prelude.{ℕ, ◌≡◌, true, not, cond, ◌&&◌, [], ◌++◌, length, drop}
+use Rattle.std.specs.Prelude.{ℕ, ◌≡◌, true, not, cond, ◌&&◌, [], ◌++◌, length, drop, Option, Some, None}
 use Prim.Native.String.{String}
 use Rattle.text.specs.Text.{Text, bytes, is_nil}
 use Rattle.path_grammar.specs.Legal.{is_root}
 use Rattle.path_prefix.specs.Prefix.{has_prefix}
-use Rattle.path_rest.specs.declared.Rest.{Rest}
-use Rattle.path_rest.specs.declared.Rest.TheVariants.{From, Nothing}
 
 -- The index at which the rest of the path p begins, if s is a prefix of p: where s ends, but 0 if s is `/` and p is longer.
 unfoldable pub rest_index : Text → Text → ℕ
@@ -15,18 +13,18 @@ rest_index p s = cond (is_root s && not (is_root p)) 0 (length s)
 
 -- Where the rest of the path p after the prefix s begins. Requirements: "The prefix test now says also where the rest begins", "the prefix
 -- test names a place only with a yes".
-unfoldable pub rest_start : Text → Text → Rest
+unfoldable pub rest_start : Text → Text → Option ℕ
 unfolding has_prefix rest_index
-rest_start p s = cond (has_prefix p s) (From (rest_index p s)) Nothing
+rest_start p s = cond (has_prefix p s) (Some (rest_index p s)) None
 
 -- The rest as a part of the text p; empty if there is none.
-unfoldable pub rest_text : Text → Rest → Text
-rest_text p (From n) = drop n p
-rest_text p Nothing = []
+unfoldable pub rest_text : Text → Option ℕ → Text
+rest_text p (Some n) = drop n p
+rest_text p None = []
 
 -- After the prefix s the rest of the path p is the text r, from the index n.
 abbrev pub RestAfter : String → String → ℕ → String → Type 0
-RestAfter p s n r = (rest_start (bytes p) (bytes s) ≡ From n) × (rest_text (bytes p) (From n) ≡ bytes r)
+RestAfter p s n r = (rest_start (bytes p) (bytes s) ≡ Some n) × (rest_text (bytes p) (Some n) ≡ bytes r)
 
 -- Worked examples (proofs/RestLaws.antt): what may follow a prefix, and the prefixes `/` and empty.
 pub record RestExamples : Type 0 where
@@ -42,8 +40,8 @@ pub record RestExamples : Type 0 where
   pub root_itself : RestAfter "/" "/" 1 ""
   pub empty_prefix : RestAfter "/A" "" 0 "/A"
   -- A text that is no prefix has no rest: a name goes on, or the prefix is longer than the path.
-  pub longer_name : rest_start (bytes "/AB") (bytes "/A") ≡ Nothing
-  pub longer_prefix : rest_start (bytes "/A") (bytes "/A/B") ≡ Nothing
+  pub longer_name : rest_start (bytes "/AB") (bytes "/A") ≡ None
+  pub longer_prefix : rest_start (bytes "/A") (bytes "/A/B") ≡ None
 
 -- The text s followed by the rest r. After `/` the slash with which r begins is the separator.
 unfoldable pub followed_by : Text → Text → Text

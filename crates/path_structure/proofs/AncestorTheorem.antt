@@ -1,8 +1,8 @@
 -- The ancestors of a path are the path and the ancestors of its parent: the bound on their number, the length of the path, is never reached.
+use Rattle.std.specs.Prelude.{Option, Some, None}
 use mathlib.Core.Path.{◌≡◌, refl, sym, ap, ◌∙◌}
 use mathlib.Core.Bool.{Bool, true, false, cond}
 use mathlib.Core.List.{List, ◌∷◌}
-use mathlib.Core.Option.{Option, none, some}
 use Prim.Native.Nat.{ℕ, zero, suc, ◌-◌, ◌≤◌}
 use native.Mathlib.Omega.{arith}
 use lib.ListN.{length, take}
@@ -49,7 +49,7 @@ ancestors_step p e = go (has_parent p) refl
     q : Text
     q = take (parent_len p) p
 
-    go : (t : Bool) → has_parent p ≡ t → ancestors_within (length p - 1) p ≡ p ∷ ancestors_from ancestors (cond t (some q) none)
+    go : (t : Bool) → has_parent p ≡ t → ancestors_within (length p - 1) p ≡ p ∷ ancestors_from ancestors (cond t (Some q) None)
     go false f = ancestors_none (length p - 1) p f
     go true f =
         let n : length p - 1 ≡ suc (length p - 2) = omega (arith, legal_long p e f) in
@@ -58,8 +58,8 @@ ancestors_step p e = go (has_parent p) refl
 
 from_option : (o : Option g.Path) → ancestors_from ancestors (render_option o) ≡ ancestors_of_option o
 unfolding render_option ancestors_of_option
-from_option none = refl
-from_option (some p) = refl
+from_option None = refl
+from_option (Some p) = refl
 
 rendered_legal : (p : g.Path) → legal (render p) ≡ true
 rendered_legal p = (legal_is_rendered (render p)).1 (record { path = p; same = refl })

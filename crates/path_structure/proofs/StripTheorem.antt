@@ -1,8 +1,8 @@
 -- Stripping a path's text, part by part: a name is kept, a selection leaves nothing, or a slash if a name follows it.
+use Rattle.std.specs.Prelude.{Option, Some, None}
 use mathlib.Core.Path.{◌≡◌, refl, sym, ap, ◌∙◌}
 use mathlib.Core.Bool.{Bool, true, false, cond}
 use mathlib.Core.List.{List, [], ◌∷◌, ◌++◌, map, append_assoc, append-nil}
-use mathlib.Core.Option.{Option, none, some}
 use Prim.Native.Nat.{ℕ}
 use Rattle.text.specs.Text.{Text, lacks_byte, take_until, drop_until}
 use Rattle.text.proofs.TextLaws.{lacks_first, lacks_rest, lacks_join}
@@ -72,9 +72,9 @@ unfolding selections_text
 selections_dropped s [] k = ap (λ (t : Text). strip_from false (t ++ k)) (append-nil (selection_text s)) ∙ selection_dropped s k
 selections_dropped s (t ∷ r) k =
     let rest : Text = selections_text (t ∷ r) ++ k in
-    let none : gap rest ≡ [] = ap gap (append_assoc (selection_text t) (selections_text r) k) ∙ selection_no_gap t (selections_text r ++ k) in
+    let None : gap rest ≡ [] = ap gap (append_assoc (selection_text t) (selections_text r) k) ∙ selection_no_gap t (selections_text r ++ k) in
     ap (strip_from false) (append_assoc (selection_text s) (selections_text (t ∷ r)) k) ∙ selection_dropped s rest
-    ∙ ap (λ (x : Text). x ++ strip_from false rest) none ∙ selections_dropped t r k
+    ∙ ap (λ (x : Text). x ++ strip_from false rest) None ∙ selections_dropped t r k
 
 -- The last prim, and what follows it: no name.
 prim_last : (n : g.Name) (ss : List g.Selection) (k : Text) → gap k ≡ [] → strip_from false ((name_text n ++ selections_text ss) ++ k) ≡ name_text n ++ strip_from false k
@@ -122,13 +122,13 @@ more_lacks (n ∷ r) = lacks_join 123 (name_text n) (more_text r) (name_lacks 12
 
 property_lacks : (x : Option g.Property) → lacks_byte 123 (property_text x) ≡ true
 unfolding property_text lacks_byte
-property_lacks none = refl
-property_lacks (some x) = lacks_join 123 (name_text x.first) (more_text x.more) (name_lacks 123 open_no_name x.first) (more_lacks x.more)
+property_lacks None = refl
+property_lacks (Some x) = lacks_join 123 (name_text x.first) (more_text x.more) (name_lacks 123 open_no_name x.first) (more_lacks x.more)
 
 property_no_gap : (x : Option g.Property) → gap (property_text x) ≡ []
 unfolding property_text is_name_byte is_name_start_byte
-property_no_gap none = refl
-property_no_gap (some x) = refl
+property_no_gap None = refl
+property_no_gap (Some x) = refl
 
 property_kept : (x : Option g.Property) → strip_from false (property_text x) ≡ property_text x
 unfolding strip_from
@@ -150,9 +150,9 @@ absolute_strips (g.prims p r x) =
     ∙ ap (λ (t : Text). strip_from false (own_text p r x) ++ t) (target_prims p r x) ∙ append-nil (strip_from false (own_text p r x)) ∙ own_stripped p r x
 absolute_strips (g.target p r x q) =
     let t : Text = absolute_text q in
-    let w : Text = own_text p r (some x) ++ bracket_text t in
+    let w : Text = own_text p r (Some x) ++ bracket_text t in
     ap (λ (y : Text). strip_from false y ++ target_part w) (own_target p r x t)
-    ∙ ap (λ (y : Text). strip_from false (own_text p r (some x)) ++ y) (target_target p r x t) ∙ ap (λ (y : Text). y ++ bracket_text t) (own_stripped p r (some x))
+    ∙ ap (λ (y : Text). strip_from false (own_text p r (Some x)) ++ y) (target_target p r x t) ∙ ap (λ (y : Text). y ++ bracket_text t) (own_stripped p r (Some x))
 
 pub strips : (p : g.Path) → strip (render p) ≡ render (strip_of p)
 unfolding strip strip_from render strip_of own_part target_part take_until drop_until

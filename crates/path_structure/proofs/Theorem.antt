@@ -1,7 +1,7 @@
 -- The theorems of specs/Structure.antt.
+use Rattle.std.specs.Prelude.{Some, None}
 use mathlib.Core.Path.{◌≡◌, sym, ap}
 use mathlib.Core.List.{List, ◌∷◌, ◌++◌}
-use mathlib.Core.Option.{none, some}
 use Rattle.text.specs.Text.{Text}
 use Rattle.path_grammar.specs.Grammar as g
 use Rattle.path_grammar.specs.Grammar.{property_text, own_text}
@@ -11,7 +11,7 @@ use Rattle.path_structure.proofs.PrimTheorem.{prim_paths, properties}
 use Rattle.path_structure.proofs.StripTheorem.{strips}
 use Rattle.path_structure.proofs.AncestorTheorem.{ancestors_are}
 
-property_names : (p : g.Prim) (r : List g.Prim) (x : g.Property) → own_text p r (some x) ≡ own_text p r none ++ (46 ∷ property_name x)
+property_names : (p : g.Prim) (r : List g.Prim) (x : g.Property) → own_text p r (Some x) ≡ own_text p r None ++ (46 ∷ property_name x)
 unfolding own_text property_text property_name
 property_names p r x = ap (λ (t : Text). t ++ (46 ∷ property_name x)) (sym (no_property_text p r))
 

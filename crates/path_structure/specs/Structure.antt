@@ -1,7 +1,6 @@
 -- Meaning: Parents, prim paths, properties, ancestors and the removal of selections, on the data types of the grammar (crates/path_grammar/specs).
 -- crates/path_parts defines them on texts, byte by byte; `StructureTheorems` states that the two agree on every path.
-use Rattle.std.specs.Prelude.{ℕ, ◌≡◌, Bool, true, false, cond, List, [], ◌∷◌, ◌++◌, map}
-use Rattle.std.proofs.Math.Option.{Option, none, some}
+use Rattle.std.specs.Prelude.{ℕ, ◌≡◌, Bool, true, false, cond, List, [], ◌∷◌, ◌++◌, map, Option, Some, None}
 use Rattle.text.specs.Text.{Text}
 use Rattle.text.specs.Bytes.{dot}
 use Rattle.path_grammar.specs.Grammar as g
@@ -30,26 +29,26 @@ drop_last_part p (q ∷ r) = p ∷ drop_last_part q r
 -- The path of these prims, without a property: `/` if there are none.
 unfoldable pub path_of_prims : {d : ℕ} → List g.Prim → g.Absolute d
 path_of_prims [] = g.root
-path_of_prims (p ∷ r) = g.prims p r none
+path_of_prims (p ∷ r) = g.prims p r None
 
 -- The absolute path as a path, if there is one.
 unfoldable pub absolute_option : Option (g.Absolute 4) → Option g.Path
-absolute_option none = none
-absolute_option (some q) = some (g.absolute q)
+absolute_option None = None
+absolute_option (Some q) = Some (g.absolute q)
 
 -- The parent of an absolute path: the path without its last part, which is the target in brackets, or its property, or else its last selection or
 -- name. Requirements: "The parent of `/A.b` is `/A`, of `/A{v=p}B` is `/A{v=p}`, of `/A` is `/`. `/` and the empty path have none."
 unfoldable pub absolute_parent : {d : ℕ} → g.Absolute d → Option (g.Absolute d)
 unfolding drop_last_part path_of_prims
-absolute_parent g.root = none
-absolute_parent (g.prims p r none) = some (path_of_prims (drop_last_part p r))
-absolute_parent (g.prims p r (some x)) = some (g.prims p r none)
-absolute_parent (g.target p r x q) = some (g.prims p r (some x))
+absolute_parent g.root = None
+absolute_parent (g.prims p r None) = Some (path_of_prims (drop_last_part p r))
+absolute_parent (g.prims p r (Some x)) = Some (g.prims p r None)
+absolute_parent (g.target p r x q) = Some (g.prims p r (Some x))
 
 -- The parent.
 unfoldable pub parent_of : g.Path → Option g.Path
 unfolding absolute_parent absolute_option
-parent_of g.empty = none
+parent_of g.empty = None
 parent_of (g.absolute q) = absolute_option (absolute_parent q)
 
 -- There is a selection.
@@ -68,9 +67,9 @@ ends_in_selection p (q ∷ r) = ends_in_selection q r
 unfoldable pub absolute_prim_path : {d : ℕ} → g.Absolute d → g.Absolute d
 unfolding ends_in_selection path_of_prims drop_last_part
 absolute_prim_path g.root = g.root
-absolute_prim_path (g.prims p r none) = cond (ends_in_selection p r) (path_of_prims (drop_last_part p r)) (g.prims p r none)
-absolute_prim_path (g.prims p r (some x)) = g.prims p r none
-absolute_prim_path (g.target p r x q) = g.prims p r none
+absolute_prim_path (g.prims p r None) = cond (ends_in_selection p r) (path_of_prims (drop_last_part p r)) (g.prims p r None)
+absolute_prim_path (g.prims p r (Some x)) = g.prims p r None
+absolute_prim_path (g.target p r x q) = g.prims p r None
 
 -- The prim path.
 unfoldable pub prim_path_of : g.Path → g.Path
@@ -80,15 +79,15 @@ prim_path_of (g.absolute q) = g.absolute (absolute_prim_path q)
 
 -- The prim path of an absolute path that ends in its property; no path without a property, or with a target after it.
 unfoldable pub absolute_split : {d : ℕ} → g.Absolute d → Option (g.Absolute d)
-absolute_split g.root = none
-absolute_split (g.prims p r none) = none
-absolute_split (g.prims p r (some x)) = some (g.prims p r none)
-absolute_split (g.target p r x q) = none
+absolute_split g.root = None
+absolute_split (g.prims p r None) = None
+absolute_split (g.prims p r (Some x)) = Some (g.prims p r None)
+absolute_split (g.target p r x q) = None
 
 -- The prim path of a property path.
 unfoldable pub split_property_of : g.Path → Option g.Path
 unfolding absolute_split absolute_option
-split_property_of g.empty = none
+split_property_of g.empty = None
 split_property_of (g.absolute q) = absolute_option (absolute_split q)
 
 -- The name of a property: its names, joined by `:`.
@@ -116,14 +115,14 @@ strip_of (g.absolute q) = g.absolute (absolute_strip q)
 -- The text of a path, if there is one.
 unfoldable pub render_option : Option g.Path → Option Text
 unfolding render
-render_option none = none
-render_option (some p) = some (render p)
+render_option None = None
+render_option (Some p) = Some (render p)
 
 -- The ancestors of a path's text, or none if there is no path.
 unfoldable pub ancestors_of_option : Option g.Path → List Text
 unfolding render ancestors
-ancestors_of_option none = []
-ancestors_of_option (some p) = ancestors (render p)
+ancestors_of_option None = []
+ancestors_of_option (Some p) = ancestors (render p)
 
 -- The theorems (proofs/Theorem.antt). Every legal text is the text of a path, so they determine the five on every legal text.
 pub record StructureTheorems : Type 0 where
@@ -134,7 +133,7 @@ pub record StructureTheorems : Type 0 where
   -- So is the prim path of a property.
   pub properties : (p : g.Path) → split_property (render p) ≡ render_option (split_property_of p)
   -- The text of a property path is its prim path, a dot and the property's name.
-  pub property_names : (p : g.Prim) (r : List g.Prim) (x : g.Property) → own_text p r (some x) ≡ own_text p r none ++ (dot ∷ property_name x)
+  pub property_names : (p : g.Prim) (r : List g.Prim) (x : g.Property) → own_text p r (Some x) ≡ own_text p r None ++ (dot ∷ property_name x)
   -- Stripping a path's text gives the text of the path without its selections.
   pub strips : (p : g.Path) → strip (render p) ≡ render (strip_of p)
   -- The ancestors are the path itself and then the ancestors of its parent.

@@ -1,9 +1,10 @@
 -- Lemmas for the branches of the functions.
+use Rattle.std.specs.Option.{unwrap_or}
+use Rattle.std.specs.Prelude.{Ok, Err, Option, Some, None}
 use mathlib.Core.Path.{◌≡◌, refl, sym, ap, ◌∙◌}
 use mathlib.Core.Logic.{◌≢◌}
 use mathlib.Core.Bool.{Bool, true, false, cond}
 use mathlib.Core.List.{[], ◌∷◌, ◌++◌, append_assoc}
-use mathlib.Core.Option.{some}
 use Prim.Native.Nat.{ℕ, suc, ◌+◌, ◌-◌, ◌≤◌, ◌<◌}
 use native.Mathlib.Nat.{zero-add}
 use native.Mathlib.Numerals.{add-one}
@@ -11,36 +12,18 @@ use native.Mathlib.Omega.{arith}
 use lib.Dec.{eqb}
 use lib.ListN.{length, take, drop, get_or, drop_of_length-le, length-append, length-drop}
 use lib.Seq.{drop-cons, length-take-le, take-append-add, drop-append-add}
-use borrow.Author.Tests.{eq-eqb, ne_eqb, lt-ltb, le-ltb, le-leb, lt-leb}
+use borrow.Author.Tests.{ne_eqb, lt-ltb, le-ltb, le-leb, lt-leb}
 use Rattle.text.specs.Text.{Text, take_until, written, written_if_fits}
 use Rattle.text.proofs.UntilLaws.{take_until_length, drop_until_slice}
 use Rattle.text.proofs.WriteLaws.{rest_whole, placed_first, placed_next}
 use Rattle.path_grammar.specs.Own.{own_part, target_part}
 use Rattle.path_grammar.proofs.OwnLaws.{own_parts}
 use Rattle.path_target.specs.Target.{bracket_depth, close_len, closed_at, has_target, target_brackets, embedded_target, or_empty, replace_embedded_target, replaced_reply, replaced_buffer}
-use Rattle.path_target.specs.declared.Brackets.{Brackets}
-use Rattle.path_target.specs.declared.Brackets.TheVariants.{Between, Nothing}
-use Rattle.path_target.specs.declared.Replaced.TheVariants.{Written, Over, NoTarget}
 use Rattle.path_target.proofs.TargetLaws.{HasBrackets, parts_length, brackets_of, embedded_some, embedded_none, replaced_some, replaced_none}
+use Rattle.refusal.specs.declared.Refusal.TheVariants.{MadeTooLong, NoPath}
 
 -- Lemmas for `depth_after`.
 module _ (d a : ℕ) where
-  pub depth_open : a ≡ 91 → d + 1 ≡ bracket_depth d a
-  unfolding bracket_depth
-  depth_open h = rw (eq-eqb a 91 h) (add-one d)
-
-  pub depth_closed : a ≢ 91 → a ≡ 93 → 0 < d → d - 1 ≡ bracket_depth d a
-  unfolding bracket_depth
-  depth_closed n h l = rw (ne_eqb a 91 n, eq-eqb a 93 h)
-
-  pub depth_none : a ≢ 91 → a ≡ 93 → d ≤ 0 → d ≡ bracket_depth d a
-  unfolding bracket_depth
-  depth_none n h l = rw (ne_eqb a 91 n, eq-eqb a 93 h) (omega arith)
-
-  pub depth_same : a ≢ 91 → a ≢ 93 → d ≡ bracket_depth d a
-  unfolding bracket_depth
-  depth_same n h = rw (ne_eqb a 91 n, ne_eqb a 93 h)
-
   -- One byte opens at most one bracket.
   depth_step : bracket_depth d a ≤ d + 1
   unfolding bracket_depth
@@ -50,8 +33,6 @@ module _ (d a : ℕ) where
       go true y = omega arith
       go false true = omega arith
       go false false = omega arith
-
-pub ruleset depths = (depth_open, depth_closed, depth_none, depth_same)
 
 -- Lemmas for `close_len`: i bytes are read, d brackets are open, and the byte sought is as far from there as in the rest.
 pub Reached : Text → ℕ → ℕ → Type 0
@@ -102,12 +83,12 @@ module _ (p : Text) (o : ℕ) (h : o ≡ length (take_until 91 p)) where
     unfolding closed_at
     open_closed = rw open_part at k
 
-    pub brackets_none : length p - o ≤ n → Nothing ≡ target_brackets p
+    pub brackets_none : length p - o ≤ n → None ≡ target_brackets p
     unfolding target_brackets has_target
     brackets_none l =
         rw (le-ltb (closed_at p) (length (target_part p)) (omega (arith, parts_length p, open_own, open_closed)))
 
-    pub brackets_some : n < length p - o → Between o (o + n) ≡ target_brackets p
+    pub brackets_some : n < length p - o → Some (o, o + n) ≡ target_brackets p
     unfolding target_brackets has_target
     brackets_some l =
         rw (lt-ltb (closed_at p) (length (target_part p)) (omega (arith, parts_length p, open_own, open_closed)), open_own, open_closed)
@@ -128,36 +109,37 @@ three_written x y z out n e l =
     rw (e, first, next, ← i) (last ∙ whole)
 
 -- What the brackets that were found say of the path.
-module _ (p : Text) (b : Brackets) (h : b ≡ target_brackets p) where
-  pub target_absent : b ≡ Nothing → has_target p ≡ false
+module _ (p : Text) (b : Option (ℕ × ℕ)) (h : b ≡ target_brackets p) where
+  pub target_absent : b ≡ None → has_target p ≡ false
   unfolding target_brackets
   target_absent e = go (has_target p) refl
     where
       go : (x : Bool) → has_target p ≡ x → x ≡ false
       go true k =
-          absurd (let z : Between (length (own_part p)) (length (own_part p) + closed_at p) ≡ Nothing = rw k at (sym h ∙ e) in let y : ◌≡◌ {A = ℕ} 0 1 = cc in omega arith)
+          absurd (let z : Some (length (own_part p), length (own_part p) + closed_at p) ≡ None = rw k at (sym h ∙ e) in let y : ◌≡◌ {A = ℕ} 0 1 = cc in omega arith)
       go false k = refl
 
-  pub text_absent : b ≡ Nothing → [] ≡ or_empty (embedded_target p)
+  pub text_absent : b ≡ None → [] ≡ or_empty (embedded_target p)
   text_absent e = rw (embedded_none p (target_absent e))
 
-  pub replaced_nothing : b ≡ Nothing → (t out : Text)
-      → (NoTarget ≡ replaced_reply (replace_embedded_target p t) out) × (out ≡ replaced_buffer (replace_embedded_target p t) out)
+  pub replaced_nothing : b ≡ None → (t out : Text)
+      → ((Err NoPath) ≡ replaced_reply (replace_embedded_target p t) out) × (out ≡ replaced_buffer (replace_embedded_target p t) out)
   unfolding replaced_reply replaced_buffer
   replaced_nothing e t out = rw (replaced_none p t (target_absent e)) (refl, refl)
 
-  module _ (o c : ℕ) (e : b ≡ Between o c) where
+  module _ (o c : ℕ) (e : b ≡ Some (o, c)) where
     found : (has_target p ≡ true) × ((o ≡ length (own_part p)) × (c ≡ length (own_part p) + closed_at p))
     unfolding target_brackets
     found = go (has_target p) refl
       where
         go : (x : Bool) → has_target p ≡ x → (x ≡ true) × ((o ≡ length (own_part p)) × (c ≡ length (own_part p) + closed_at p))
         go true k =
-            let z : Between (length (own_part p)) (length (own_part p) + closed_at p) ≡ Between o c = rw k at (sym h ∙ e) in
-            let i : length (own_part p) ≡ o = cc in
-            let j : length (own_part p) + closed_at p ≡ c = cc in
+            let z : Some (length (own_part p), length (own_part p) + closed_at p) ≡ Some (o, c) = rw k at (sym h ∙ e) in
+            let places : Option (ℕ × ℕ) → ℕ × ℕ = λ (w : Option (ℕ × ℕ)). unwrap_or w (0, 0) in
+            let i : length (own_part p) ≡ o = ap (λ (w : Option (ℕ × ℕ)). (places w).0) z in
+            let j : length (own_part p) + closed_at p ≡ c = ap (λ (w : Option (ℕ × ℕ)). (places w).1) z in
             (refl, (sym i, sym j))
-        go false k = absurd (let z : Nothing ≡ Between o c = rw k at (sym h ∙ e) in let y : ◌≡◌ {A = ℕ} 0 1 = cc in omega arith)
+        go false k = absurd (let z : None ≡ Some (o, c) = rw k at (sym h ∙ e) in let y : ◌≡◌ {A = ℕ} 0 1 = cc in omega arith)
 
     known : HasBrackets p
     known = brackets_of p found.0
@@ -203,7 +185,7 @@ module _ (p : Text) (b : Brackets) (h : b ≡ target_brackets p) where
     tail_is = rw at_close (ap (drop (length (own_part p) + closed_at p)) (sym (own_parts p)) ∙ drop-append-add (own_part p) (target_part p) (closed_at p))
 
     module _ (t out : Text) where
-      replaced_is : replace_embedded_target p t ≡ some (take (o + 1) p ++ (t ++ drop c p))
+      replaced_is : replace_embedded_target p t ≡ Some (take (o + 1) p ++ (t ++ drop c p))
       replaced_is =
           replaced_some p t found.0 ∙ rw (head_is, tail_is, append_assoc (own_part p) (91 ∷ []) (t ++ drop (closed_at p) (target_part p)))
 
@@ -212,7 +194,7 @@ module _ (p : Text) (b : Brackets) (h : b ≡ target_brackets p) where
           rw (length-append (take (o + 1) p) (t ++ drop c p), length-append t (drop c p), length-drop c p, ← head_size) (omega arith)
 
       pub replaced_over : length out < o + 1 + length t + (length p - c)
-          → (Over ≡ replaced_reply (replace_embedded_target p t) out) × (out ≡ replaced_buffer (replace_embedded_target p t) out)
+          → ((Err MadeTooLong) ≡ replaced_reply (replace_embedded_target p t) out) × (out ≡ replaced_buffer (replace_embedded_target p t) out)
       unfolding replaced_reply replaced_buffer written_if_fits
       replaced_over l =
           let j : Text = take (o + 1) p ++ (t ++ drop c p) in
@@ -220,10 +202,10 @@ module _ (p : Text) (b : Brackets) (h : b ≡ target_brackets p) where
 
       pub replaced_fits : (out₁ out₂ out₃ : Text) → o + 1 + length t + (length p - c) ≤ length out → out₁ ≡ written_if_fits 0 (take (o + 1) p) out
           → out₂ ≡ written_if_fits (o + 1) t out₁ → out₃ ≡ written_if_fits (o + 1 + length t) (take (length p - c) (drop c p)) out₂
-          → (Written (o + 1 + length t + (length p - c)) ≡ replaced_reply (replace_embedded_target p t) out) × (out₃ ≡ replaced_buffer (replace_embedded_target p t) out)
+          → (Ok (o + 1 + length t + (length p - c)) ≡ replaced_reply (replace_embedded_target p t) out) × (out₃ ≡ replaced_buffer (replace_embedded_target p t) out)
       unfolding replaced_reply replaced_buffer
       replaced_fits out₁ out₂ out₃ l e₁ e₂ e₃ =
           let j : Text = take (o + 1) p ++ (t ++ drop c p) in
           let fits : length j ≤ length out = omega (arith, replaced_length) in
           let i : out₃ ≡ written_if_fits 0 j out = e₃ ∙ rw (e₂, e₁, rest_whole p c) (three_written (take (o + 1) p) t (drop c p) out (o + 1) head_size fits) in
-          rw (replaced_is, le-leb (length j) (length out) fits) (ap (λ (m : ℕ). Written m) (sym replaced_length), i)
+          rw (replaced_is, le-leb (length j) (length out) fits) (ap (λ (m : ℕ). Ok m) (sym replaced_length), i)

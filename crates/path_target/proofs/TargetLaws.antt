@@ -1,8 +1,8 @@
 -- Laws of the brackets of a path: first for any bytes, then for the grammar as data.
+use Rattle.std.specs.Prelude.{Some, None}
 use mathlib.Core.Path.{◌≡◌, refl, sym, ap, ◌∙◌}
 use mathlib.Core.Bool.{Bool, true, false}
 use mathlib.Core.List.{List, [], ◌∷◌, ◌++◌, append_assoc}
-use mathlib.Core.Option.{none, some}
 use Prim.Native.Nat.{ℕ, suc, ◌+◌, ◌-◌, ◌<◌}
 use native.Mathlib.Omega.{arith}
 use lib.Dec.{eqb, eqb-suc-zero}
@@ -41,32 +41,32 @@ brackets_of p e = go (target_part p) refl (ltb-true (close_len 0 (target_part p)
 
 -- The target and the replacement, if it is known whether there are brackets.
 module _ (p : Text) where
-  pub embedded_some : has_target p ≡ true → embedded_target p ≡ some (drop 1 (take (closed_at p) (target_part p)))
+  pub embedded_some : has_target p ≡ true → embedded_target p ≡ Some (drop 1 (take (closed_at p) (target_part p)))
   unfolding embedded_target
   embedded_some e = rw e
 
-  pub embedded_none : has_target p ≡ false → embedded_target p ≡ none
+  pub embedded_none : has_target p ≡ false → embedded_target p ≡ None
   unfolding embedded_target
   embedded_none e = rw e
 
-  pub replaced_some : (t : Text) → has_target p ≡ true → replace_embedded_target p t ≡ some (own_part p ++ (91 ∷ (t ++ drop (closed_at p) (target_part p))))
+  pub replaced_some : (t : Text) → has_target p ≡ true → replace_embedded_target p t ≡ Some (own_part p ++ (91 ∷ (t ++ drop (closed_at p) (target_part p))))
   unfolding replace_embedded_target
   replaced_some t e = rw e
 
-  pub replaced_none : (t : Text) → has_target p ≡ false → replace_embedded_target p t ≡ none
+  pub replaced_none : (t : Text) → has_target p ≡ false → replace_embedded_target p t ≡ None
   unfolding replace_embedded_target
   replaced_none t e = rw e
 
 -- The target replaced by itself.
-pub replaced_by_itself : (p t : Text) → embedded_target p ≡ some t → replace_embedded_target p t ≡ some p
+pub replaced_by_itself : (p t : Text) → embedded_target p ≡ Some t → replace_embedded_target p t ≡ Some p
 replaced_by_itself p t e = go (has_target p) refl
   where
-    go : (b : Bool) → has_target p ≡ b → replace_embedded_target p t ≡ some p
+    go : (b : Bool) → has_target p ≡ b → replace_embedded_target p t ≡ Some p
     go false h = absurd (no_text (sym (embedded_none p h) ∙ e))
     go true h =
         let w : HasBrackets p = brackets_of p h in
         let n : ℕ = close_len 1 w.rest in
-        let k : some (take n w.rest) ≡ some t = rw (w.closes, w.starts) at (sym (embedded_some p h) ∙ e) in
+        let k : Some (take n w.rest) ≡ Some t = rw (w.closes, w.starts) at (sym (embedded_some p h) ∙ e) in
         let i : take n w.rest ≡ t = cc in
         let whole : own_part p ++ 91 ∷ w.rest ≡ p = rw w.starts at (own_parts p) in
         let parts : take n w.rest ++ drop n w.rest ≡ w.rest = take-append-drop n w.rest in
@@ -103,10 +103,10 @@ balanced g.root k s = close_plain k (47 ∷ []) s refl refl
 balanced (g.prims p r x) k s =
     close_plain k (own_text p r x) s (own_unbracketed_text p r x) (own_unclosed (own_text p r x) (own_render p r x))
 balanced (g.target p r x q) k s =
-    let o : Text = own_text p r (some x) in
+    let o : Text = own_text p r (Some x) in
     let t : Text = absolute_text q in
     let own : close_len (suc k) (o ++ (91 ∷ ((t ++ 93 ∷ []) ++ s))) ≡ length o + close_len (suc k) (91 ∷ ((t ++ 93 ∷ []) ++ s))
-    = close_plain k o (91 ∷ ((t ++ 93 ∷ []) ++ s)) (own_unbracketed_text p r (some x)) (own_unclosed o (own_render p r (some x))) in
+    = close_plain k o (91 ∷ ((t ++ 93 ∷ []) ++ s)) (own_unbracketed_text p r (Some x)) (own_unclosed o (own_render p r (Some x))) in
     let inner : close_len (suc (suc k)) ((t ++ 93 ∷ []) ++ s) ≡ length t + close_len (suc (suc k)) (93 ∷ s)
     = ap (close_len (suc (suc k))) (append_assoc t (93 ∷ []) s) ∙ balanced q (suc k) (93 ∷ s) in
     let long : length (o ++ (91 ∷ (t ++ 93 ∷ []))) ≡ length o + suc (length t + 1)
@@ -120,6 +120,6 @@ module _ {d : ℕ} (p : g.Prim) (r : List g.Prim) (x : g.Property) (q : g.Absolu
   unfolding bracket_text
   closed = omega (arith, close_open 0 (absolute_text q ++ 93 ∷ []), balanced q 0 (93 ∷ []), close_last [])
 
-  pub closed_last : closed_at (own_text p r (some x) ++ bracket_text (absolute_text q)) ≡ suc (length (absolute_text q))
+  pub closed_last : closed_at (own_text p r (Some x) ++ bracket_text (absolute_text q)) ≡ suc (length (absolute_text q))
   unfolding closed_at
   closed_last = rw (target_target p r x (absolute_text q)) closed

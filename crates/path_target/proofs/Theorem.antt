@@ -1,9 +1,9 @@
 -- The theorems about the target of a path, and what they say of a legal text.
+use Rattle.std.specs.Prelude.{Option, Some}
 use mathlib.Core.Path.{◌≡◌, refl, sym, ap, ◌∙◌}
 use mathlib.Core.Logic.{◌≢◌}
 use mathlib.Core.Bool.{true, false}
 use mathlib.Core.List.{List, [], ◌∷◌, ◌++◌}
-use mathlib.Core.Option.{Option, some}
 use Prim.Native.Nat.{ℕ, suc}
 use native.Mathlib.Omega.{arith}
 use lib.ListN.{length, length-append}
@@ -36,7 +36,7 @@ prims_none p r x = no_target (own_text p r x) (target_prims p r x)
 -- A path with brackets.
 module _ {d : ℕ} (p : g.Prim) (r : List g.Prim) (x : g.Property) (q : g.Absolute d) where
   whole : Text
-  whole = own_text p r (some x) ++ bracket_text (absolute_text q)
+  whole = own_text p r (Some x) ++ bracket_text (absolute_text q)
 
   whole_has : has_target whole ≡ true
   unfolding whole has_target bracket_text
@@ -44,12 +44,12 @@ module _ {d : ℕ} (p : g.Prim) (r : List g.Prim) (x : g.Property) (q : g.Absolu
       lt-ltb (closed_at whole) (length (target_part whole))
       (rw (closed_last p r x q, target_target p r x (absolute_text q)) (omega (arith, length-append (absolute_text q) (93 ∷ []))))
 
-  whole_embedded : embedded_target whole ≡ some (absolute_text q)
+  whole_embedded : embedded_target whole ≡ Some (absolute_text q)
   unfolding whole bracket_text
   whole_embedded =
       embedded_some whole whole_has ∙ rw (closed_last p r x q, target_target p r x (absolute_text q), take-append_seam (absolute_text q) (93 ∷ []))
 
-  whole_replaced : (t : Text) → replace_embedded_target whole t ≡ some (own_text p r (some x) ++ bracket_text t)
+  whole_replaced : (t : Text) → replace_embedded_target whole t ≡ Some (own_text p r (Some x) ++ bracket_text t)
   unfolding whole bracket_text
   whole_replaced t =
       replaced_some whole t whole_has
@@ -65,30 +65,30 @@ widen_text : {d : ℕ} (q : g.Absolute d) → absolute_text (widen q) ≡ absolu
 unfolding absolute_text widen
 widen_text g.root = refl
 widen_text (g.prims p r x) = refl
-widen_text (g.target p r x q) = ap (λ (t : Text). own_text p r (some x) ++ bracket_text t) (widen_text q)
+widen_text (g.target p r x q) = ap (λ (t : Text). own_text p r (Some x) ++ bracket_text t) (widen_text q)
 
 -- A target is the text of an absolute path.
 record Target (d : ℕ) (t : Text) : Type 0 where
   path : g.Absolute d
   same : absolute_text path ≡ t
 
-target_of : {d : ℕ} (q : g.Absolute d) (t : Text) → embedded_target (absolute_text q) ≡ some t → Target d t
+target_of : {d : ℕ} (q : g.Absolute d) (t : Text) → embedded_target (absolute_text q) ≡ Some t → Target d t
 unfolding absolute_text whole
 target_of g.root t e = absurd (no_text (sym (embedded_none (47 ∷ []) root_none) ∙ e))
 target_of (g.prims p r x) t e = absurd (no_text (sym (embedded_none (own_text p r x) (prims_none p r x)) ∙ e))
 target_of (g.target p r x q) t e =
-    let k : some (absolute_text q) ≡ some t = sym (whole_embedded p r x q) ∙ e in
+    let k : Some (absolute_text q) ≡ Some t = sym (whole_embedded p r x q) ∙ e in
     let i : absolute_text q ≡ t = cc in
     record { path = widen q; same = widen_text q ∙ i }
 
-target_in : (s : Text) → legal s ≡ true → (t : Text) → embedded_target s ≡ some t → Target 4 t
+target_in : (s : Text) → legal s ≡ true → (t : Text) → embedded_target s ≡ Some t → Target 4 t
 unfolding render has_target closed_at close_len target_part
 target_in s e t k = go w.path (rw (← w.same) at k)
   where
     w : Rendered s
     w = (legal_is_rendered s).0 e
 
-    go : (v : g.Path) → embedded_target (render v) ≡ some t → Target 4 t
+    go : (v : g.Path) → embedded_target (render v) ≡ Some t → Target 4 t
     go g.empty k = absurd (no_text (sym (embedded_none [] refl) ∙ k))
     go (g.absolute q) k = target_of q t k
 
@@ -99,7 +99,7 @@ text_long (g.prims p r x) h = omega arith
 text_long (g.target p r x q) h = omega arith
 
 -- So the target of a legal path is legal, and not empty.
-module _ (s : Text) (e : legal s ≡ true) (t : Text) (k : embedded_target s ≡ some t) where
+module _ (s : Text) (e : legal s ≡ true) (t : Text) (k : embedded_target s ≡ Some t) where
   found : Target 4 t
   found = target_in s e t k
 

@@ -1,5 +1,5 @@
 -- The lemmas of this crate; the proof of each function is in a folder of its name.
-mod ValidateBranches
+pub mod TextLaws
 pub mod CallBranches
 pub mod PassedLaws
 pub mod RankLaws

@@ -1,4 +1,5 @@
 -- A text that passed validation, and a path made from it that is legal and not too long.
+use Rattle.std.specs.Prelude.{Result, Ok, Err, ⊤}
 use mathlib.Core.Path.{◌≡◌, refl, sym}
 use mathlib.Core.Bool.{Bool, true, false, cond}
 use mathlib.Core.List.{[], ◌∷◌}
@@ -12,19 +13,17 @@ use Rattle.text.proofs.BoolLaws.{and_l}
 use Rattle.text.proofs.WriteLaws.{placed_first}
 use Rattle.path_grammar.specs.Legal.{legal, at_most255}
 use Rattle.refusal.specs.declared.Refusal.TheVariants.{TooLong, Illegal}
-use Rattle.refusal.specs.declared.Validation.{Validation}
-use Rattle.refusal.specs.declared.Validation.TheVariants.{Passed, Refused as RefusedValidation}
-use Rattle.refusal.specs.declared.Reply.TheVariants.{Written}
 use Rattle.refusal.specs.Refusal.{validate_texts, all_texts_short, all_texts_legal}
 use Rattle.refusal.specs.Outcome.{outcome_reply, outcome_buffer, checked, ReturnsPath}
+use Rattle.refusal.specs.declared.Refusal.{Refusal}
 
 -- Both questions were answered yes.
-both_passed : {x : Validation} → x ≡ Passed → (a b : Bool) → cond a (cond b Passed (RefusedValidation Illegal)) (RefusedValidation TooLong) ≡ x → (a ≡ true) × (b ≡ true)
+both_passed : {x : Result ⊤ Refusal} → x ≡ Ok tt → (a b : Bool) → cond a (cond b (Ok tt) (Err Illegal)) (Err TooLong) ≡ x → (a ≡ true) × (b ≡ true)
 both_passed {x} e true true h = (refl, refl)
 both_passed {x} e true false h = absurd (let z : ◌≡◌ {A = ℕ} 0 1 = cc in omega arith)
 both_passed {x} e false b h = absurd (let z : ◌≡◌ {A = ℕ} 0 1 = cc in omega arith)
 
-module _ (p : Text) (q : Validation) (h : q ≡ validate_texts (p ∷ [])) (k : q ≡ Passed) where
+module _ (p : Text) (q : Result ⊤ Refusal) (h : q ≡ validate_texts (p ∷ [])) (k : q ≡ Ok tt) where
   passed : (all_texts_short (p ∷ []) ≡ true) × (all_texts_legal (p ∷ []) ≡ true)
   unfolding validate_texts
   passed = both_passed k (all_texts_short (p ∷ [])) (all_texts_legal (p ∷ [])) (sym h)
@@ -39,6 +38,6 @@ module _ (p : Text) (q : Validation) (h : q ≡ validate_texts (p ∷ [])) (k : 
 
 -- A path that was built and is legal.
 pub made_legal : (q : Text) → length q ≤ 255 → legal q ≡ true → (out : Text) → 255 ≤ length out
-    → ReturnsPath (checked q) (Written (length q)) out (written_if_fits 0 q out)
+    → ReturnsPath (checked q) (Ok (length q)) out (written_if_fits 0 q out)
 unfolding outcome_reply outcome_buffer checked at_most255
 made_legal q h l out r = rw (le-leb (length q) 255 h, l) (refl, placed_first q out (omega arith))

@@ -1,11 +1,9 @@
 -- Meaning: Refusals, their numbers and their order, and the validation of texts (questions 1 and 2). Requirements: "The first 'no' gives its number".
-use Rattle.std.specs.Prelude.{ℕ, Bool, true, cond, ◌&&◌, List, [], ◌∷◌}
+use Rattle.std.specs.Prelude.{ℕ, Bool, true, cond, ◌&&◌, List, [], ◌∷◌, Result, Ok, Err, ⊤}
 use Rattle.text.specs.Text.{Text}
 use Rattle.path_grammar.specs.Legal.{legal, at_most255}
 use Rattle.refusal.specs.declared.Refusal.{Refusal}
 use Rattle.refusal.specs.declared.Refusal.TheVariants.{TooLong, Illegal, NotAnEnd, TooMany, NoRoom, NoPath, MadeTooLong, MadeIllegal}
-use Rattle.refusal.specs.declared.Validation.{Validation}
-use Rattle.refusal.specs.declared.Validation.TheVariants.{Passed, Refused}
 
 -- The number of a refusal: that of the question that failed.
 abbrev pub refusal_number : Refusal → ℕ
@@ -44,11 +42,11 @@ all_texts_legal [] = true
 all_texts_legal (t ∷ r) = legal t && all_texts_legal r
 
 -- Validates the texts of a call: question 1 for all of them, then question 2 for all of them.
-unfoldable pub validate_texts : List Text → Validation
+unfoldable pub validate_texts : List Text → Result ⊤ Refusal
 unfolding all_texts_short all_texts_legal
-validate_texts ts = cond (all_texts_short ts) (cond (all_texts_legal ts) Passed (Refused Illegal)) (Refused TooLong)
+validate_texts ts = cond (all_texts_short ts) (cond (all_texts_legal ts) (Ok tt) (Err Illegal)) (Err TooLong)
 
 -- The refusal if there is one, otherwise the answer.
-abbrev pub refused_or : {A : Type 0} → Validation → (Refusal → A) → A → A
-refused_or Passed refuse answer = answer
-refused_or (Refused x) refuse answer = refuse x
+abbrev pub refused_or : {A : Type 0} → Result ⊤ Refusal → (Refusal → A) → A → A
+refused_or (Ok tt) refuse answer = answer
+refused_or (Err x) refuse answer = refuse x

@@ -2,8 +2,10 @@
 // a call that writes a path. Validates the texts of a call: questions 1 (at most 255 bytes) and 2 (a legal path).
 #![tactic(auto)]
 
-ghost use Rattle.std.specs.Prelude.{◌≡◌, [], ◌∷◌};
-ghost use Rattle.refusal.specs.Refusal.{refusal_number, refusal_rank, all_texts_short, all_texts_legal, validate_texts};
+ghost use Rattle.std.specs.Prelude.{◌≡◌, leb, length, map};
+ghost use Rattle.std.specs.List.{list_all};
+ghost use Rattle.path_grammar.specs.Legal.{legal};
+ghost use Rattle.refusal.specs.Refusal.{refusal_number, refusal_rank, validate_texts};
 
 // Why a call is refused; specs/Refusal.antt defines the number (`refusal_number`) and the rank (`refusal_rank`) of each.
 #[derive(Clone, Copy)]
@@ -26,24 +28,7 @@ pub enum Refusal {
     MadeIllegal,
 }
 
-// The result of validation.
-#[derive(Clone, Copy)]
-pub enum Validation {
-    // Every question so far has passed.
-    Passed,
-    // A question has failed.
-    Refused(Refusal),
-}
-
-// The reply of a call that writes to a lent buffer: a path, lengths of paths, statuses or a line.
-#[derive(Clone, Copy)]
-pub enum Reply {
-    // The number of items written: bytes, lengths or statuses.
-    Written(usize),
-    Refused(Refusal),
-}
-
-// The number of a refusal: that of the question that failed.
+// The number of a refusal: that of the question that failed. No `From`: callers would read no plainer.
 pub fn number_of(x: Refusal) -> usize
     ensures { result ≡ refusal_number x }
 {
@@ -60,6 +45,7 @@ pub fn number_of(x: Refusal) -> usize
 }
 
 // The rank of a refusal: the position of its question in the order in which the questions are put.
+// No derived order: that would be the order of the variants, and the ranks have a table of their own.
 pub fn rank_of(x: Refusal) -> usize
     ensures { result ≡ refusal_rank x }
 {
@@ -75,73 +61,43 @@ pub fn rank_of(x: Refusal) -> usize
     }
 }
 
-// Validates one text (questions 1 and 2).
-pub fn validate_text(text: &[u8]) -> Validation
-    ensures { result ≡ validate_texts (text.now ∷ []) }
+// Question 1: returns whether each text has at most 255 bytes.
+#[inline(always)]
+fn all_texts_short(texts: &[&[u8]]) -> bool
+    ensures { result ≡ list_all (λ t. leb (length t.now) 255) texts.now }
 {
-    if 255 < text.len() {
-        return Validation::Refused(Refusal::TooLong);
+    for text in texts {
+        if 255 < text.len() {
+            return false;
+        }
     }
-    if !path_grammar::is_legal(text) {
-        return Validation::Refused(Refusal::Illegal);
-    }
-    Validation::Passed
+    true
 }
 
-// Validates two texts (questions 1 and 2).
-pub fn validate_two_texts(first: &[u8], second: &[u8]) -> Validation
-    ensures { result ≡ validate_texts (first.now ∷ second.now ∷ []) }
+// Question 2: returns whether each text is a legal path.
+#[inline(always)]
+fn all_texts_legal(texts: &[&[u8]]) -> bool
+    ensures { result ≡ list_all (λ t. legal t.now) texts.now }
 {
-    if 255 < first.len() {
-        return Validation::Refused(Refusal::TooLong);
+    for text in texts {
+        if !path_grammar::is_legal(text) {
+            return false;
+        }
     }
-    if 255 < second.len() {
-        return Validation::Refused(Refusal::TooLong);
-    }
-    if !path_grammar::is_legal(first) {
-        return Validation::Refused(Refusal::Illegal);
-    }
-    if !path_grammar::is_legal(second) {
-        return Validation::Refused(Refusal::Illegal);
-    }
-    Validation::Passed
+    true
 }
 
-// Question 1: returns whether each of the three texts has at most 255 bytes.
-fn all_texts_short(a: &[u8], b: &[u8], c: &[u8]) -> bool
-    ensures { result ≡ all_texts_short (a.now ∷ b.now ∷ c.now ∷ []) }
+// Validates the texts of a call: question 1 for all of them, then question 2 for all of them. Inlined, and with `for`
+// loops, so that the texts stay in registers: a call, or `iter().all(..)`, takes twice the instructions around the scans.
+#[inline(always)]
+pub fn validate_texts(texts: &[&[u8]]) -> Result<(), Refusal>
+    ensures { result ≡ validate_texts (map (λ t. t.now) texts.now) }
 {
-    if 255 < a.len() {
-        return false;
+    if !all_texts_short(texts) {
+        return Err(Refusal::TooLong);
     }
-    if 255 < b.len() {
-        return false;
+    if !all_texts_legal(texts) {
+        return Err(Refusal::Illegal);
     }
-    c.len() <= 255
-}
-
-// Question 2: returns whether each of the three texts is a legal path.
-fn all_texts_legal(a: &[u8], b: &[u8], c: &[u8]) -> bool
-    ensures { result ≡ all_texts_legal (a.now ∷ b.now ∷ c.now ∷ []) }
-{
-    if !path_grammar::is_legal(a) {
-        return false;
-    }
-    if !path_grammar::is_legal(b) {
-        return false;
-    }
-    path_grammar::is_legal(c)
-}
-
-// Validates three texts (questions 1 and 2).
-pub fn validate_three_texts(a: &[u8], b: &[u8], c: &[u8]) -> Validation
-    ensures { result ≡ validate_texts (a.now ∷ b.now ∷ c.now ∷ []) }
-{
-    if !all_texts_short(a, b, c) {
-        return Validation::Refused(Refusal::TooLong);
-    }
-    if !all_texts_legal(a, b, c) {
-        return Validation::Refused(Refusal::Illegal);
-    }
-    Validation::Passed
+    Ok(())
 }

@@ -1,8 +1,9 @@
 -- Lemmas about the branches of the chain.
+use Rattle.std.specs.Prelude.{Result, Ok, Err, Option, Some, None}
+use Rattle.std.specs.Option.{unwrap_or}
 use mathlib.Core.Path.{◌≡◌, refl, sym, ap, ◌∙◌}
 use mathlib.Core.Bool.{Bool, true, false}
 use mathlib.Core.List.{List}
-use mathlib.Core.Option.{Option, none, some, get_or}
 use Prim.Native.Nat.{ℕ, suc, ◌+◌, ◌-◌, ◌≤◌, ◌<◌}
 use native.Mathlib.Omega.{arith}
 use native.Mathlib.Numerals.{add-one}
@@ -16,8 +17,6 @@ use Rattle.pair_list.proofs.PlaceLaws.{pairs_in_length}
 use Rattle.refusal.specs.declared.Refusal.{Refusal}
 use Rattle.refusal.specs.declared.Refusal.TheVariants.{MadeTooLong}
 use Rattle.refusal.specs.Outcome.{Outcome, path, refused, checked}
-use Rattle.relocate_chain.specs.declared.steps.Step.{Step}
-use Rattle.relocate_chain.specs.declared.steps.Step.TheVariants.{Still, Made, Refused}
 use Rattle.relocate_chain.specs.Chain.{longest_replacement, replacement, next_replacement, Chained, chained, stopped, chain_step, chain_from, chain}
 use Rattle.relocate_chain.specs.ChainStep.{step_reply, step_buffer}
 use Rattle.path_grammar.proofs.LegalLaws.{fits_short}
@@ -41,62 +40,62 @@ made_short q e = go (at_most255 q) refl
 -- The properties of a replacement that follow from its result.
 pub record Went (o : Option Text) (m : ℕ) : Type 0 where
   pub text : Text
-  pub made_it : o ≡ some text
+  pub made_it : o ≡ Some text
   pub passed : checked text ≡ path text
   pub long : m ≡ length text
   pub short : m ≤ 255
 
-abbrev kind : Step → ℕ
-kind Still = 0
-kind (Made n) = 1
-kind (Refused x) = 2
+abbrev kind : Result (Option ℕ) Refusal → ℕ
+kind (Ok None) = 0
+kind (Ok (Some n)) = 1
+kind (Err x) = 2
 
-pub went : (o : Option Text) (m : ℕ) → step_reply o ≡ Made m → Went o m
+pub went : (o : Option Text) (m : ℕ) → step_reply o ≡ Ok (Some m) → Went o m
 unfolding step_reply
-went none m e = absurd (let z : ◌≡◌ {A = ℕ} 0 1 = ap kind e in omega arith)
-went (some q) m e = go (at_most255 q) (legal q) refl refl
+went None m e = absurd (let z : ◌≡◌ {A = ℕ} 0 1 = ap kind e in omega arith)
+went (Some q) m e = go (at_most255 q) (legal q) refl refl
   where
-    go : (a b : Bool) → at_most255 q ≡ a → legal q ≡ b → Went (some q) m
+    go : (a b : Bool) → at_most255 q ≡ a → legal q ≡ b → Went (Some q) m
     go true true ha hb =
-        let z : Made (length q) ≡ Made m = rw (ha, hb) at e in
+        let z : Ok (Some (length q)) ≡ Ok (Some m) = rw (ha, hb) at e in
         let y : m ≡ length q = cc in
         record { text = q; made_it = refl; passed = made_passed q ha hb; long = y; short = omega (arith, fits_short q ha) }
     go true false ha hb = absurd (let z : ◌≡◌ {A = ℕ} 2 1 = ap kind (rw (ha, hb) at e) in omega arith)
     go false b ha hb = absurd (let z : ◌≡◌ {A = ℕ} 2 1 = ap kind (rw ha at e) in omega arith)
 
-pub still : (o : Option Text) → step_reply o ≡ Still → o ≡ none
+pub still : (o : Option Text) → step_reply o ≡ (Ok None) → o ≡ None
 unfolding step_reply
-still none e = refl
-still (some q) e = go (checked q) refl
+still None e = refl
+still (Some q) e = go (checked q) refl
   where
-    go : (r : Outcome) → checked q ≡ r → some q ≡ none
+    go : (r : Outcome) → checked q ≡ r → Some q ≡ None
     go (path t) h = absurd (let z : ◌≡◌ {A = ℕ} 1 0 = ap kind (rw h at e) in omega arith)
     go (refused x) h = absurd (let z : ◌≡◌ {A = ℕ} 2 0 = ap kind (rw h at e) in omega arith)
 
-ended : (on : Text → ℕ → Chained) (p : Text) (k : ℕ) (o : Option Text) (x : Refusal) → step_reply o ≡ Refused x → chain_step on p k o ≡ stopped x
+ended : (on : Text → ℕ → Chained) (p : Text) (k : ℕ) (o : Option Text) (x : Refusal) → step_reply o ≡ Err x → chain_step on p k o ≡ stopped x
 unfolding step_reply chain_step
-ended on p k none x e = absurd (let z : ◌≡◌ {A = ℕ} 0 2 = ap kind e in omega arith)
-ended on p k (some q) x e = go (checked q) refl
+ended on p k None x e = absurd (let z : ◌≡◌ {A = ℕ} 0 2 = ap kind e in omega arith)
+ended on p k (Some q) x e = go (checked q) refl
   where
-    go : (r : Outcome) → checked q ≡ r → chain_step on p k (some q) ≡ stopped x
+    go : (r : Outcome) → checked q ≡ r → chain_step on p k (Some q) ≡ stopped x
     go (path t) h = absurd (let z : ◌≡◌ {A = ℕ} 1 2 = ap kind (rw h at e) in omega arith)
-    go (refused y) h = let z : Refused y ≡ Refused x = rw h at e in let w : y ≡ x = cc in rw (h, w)
+    go (refused y) h = let z : Err y ≡ Err x = rw h at e in let w : y ≡ x = cc in rw (h, w)
 
-pub blocked : (o : Option Text) (p : Text) (x : Refusal) → step_reply o ≡ Refused x → checked (get_or o p) ≡ refused x
+pub blocked : (o : Option Text) (p : Text) (x : Refusal) → step_reply o ≡ Err x → checked (unwrap_or o p) ≡ refused x
 unfolding step_reply
-blocked none p x e = absurd (let z : ◌≡◌ {A = ℕ} 0 2 = ap kind e in omega arith)
-blocked (some q) p x e = go (checked q) refl
+blocked None p x e = absurd (let z : ◌≡◌ {A = ℕ} 0 2 = ap kind e in omega arith)
+blocked (Some q) p x e = go (checked q) refl
   where
     go : (r : Outcome) → checked q ≡ r → checked q ≡ refused x
     go (path t) h = absurd (let z : ◌≡◌ {A = ℕ} 1 2 = ap kind (rw h at e) in omega arith)
-    go (refused y) h = let z : Refused y ≡ Refused x = rw h at e in let w : y ≡ x = cc in rw (h, w)
+    go (refused y) h = let z : Err y ≡ Err x = rw h at e in let w : y ≡ x = cc in rw (h, w)
 
 went_on : (on : Text → ℕ → Chained) (p : Text) (k : ℕ) (o : Option Text) (m : ℕ) (w : Went o m) → chain_step on p k o ≡ on w.text (suc k)
 unfolding chain_step
 went_on on p k o m w = rw (w.made_it, w.passed)
 
 -- The text made is read back.
-pub back : (q : Text) (m : ℕ) (o : Option Text) (mem mem₀ : Text) → o ≡ some q → m ≡ length q → m ≤ 255 → length mem₀ ≡ 255 → mem ≡ step_buffer o mem₀ → take m mem ≡ q
+pub back : (q : Text) (m : ℕ) (o : Option Text) (mem mem₀ : Text) → o ≡ Some q → m ≡ length q → m ≤ 255 → length mem₀ ≡ 255 → mem ≡ step_buffer o mem₀ → take m mem ≡ q
 unfolding step_buffer
 back q m o mem mem₀ e l h r a = rw (a, e, l) (first_back q mem₀ (omega arith))
 
@@ -115,24 +114,27 @@ back_again q m part cur cur' e l h r b = rw (b, e, l) (first_back q cur (omega a
 
 -- One iteration of the loop.
 module _ (sk : Option Text) (l : List Pair) (p : Text) (n k len : ℕ) (cur : Text) (inv : chain sk l p ≡ chain_from sk l (n - k) (take len cur) k) where
-  pub chain_end : n ≤ k → chained (take len cur) k ≡ chain sk l p
+  pub chain_end : n ≤ k → k ≤ n → chained (take len cur) n ≡ chain sk l p
   unfolding chain_from
-  chain_end h = let z : n - k ≡ 0 = omega arith in sym (inv ∙ ap (λ (m : ℕ). chain_from sk l m (take len cur) k) z)
+  chain_end h g =
+      let z : n - k ≡ 0 = omega arith in
+      let y : n ≡ k = omega arith in
+      ap (λ (i : ℕ). chained (take len cur) i) y ∙ sym (inv ∙ ap (λ (m : ℕ). chain_from sk l m (take len cur) k) z)
 
-  module _ (h : k < n) (s : Step) (e : s ≡ step_reply (longest_replacement (replacement true sk (take len cur)) l)) where
+  module _ (h : k < n) (s : Result (Option ℕ) Refusal) (e : s ≡ step_reply (longest_replacement (replacement true sk (take len cur)) l)) where
     turn : chain sk l p ≡ chain_step (chain_from sk l (n - (k + 1))) (take len cur) k (longest_replacement (replacement true sk (take len cur)) l)
     unfolding chain_from next_replacement
     turn = let z : n - k ≡ suc (n - (k + 1)) = omega arith in inv ∙ ap (λ (m : ℕ). chain_from sk l m (take len cur) k) z
 
-    pub chain_still : s ≡ Still → chained (take len cur) k ≡ chain sk l p
+    pub chain_still : s ≡ (Ok None) → chained (take len cur) k ≡ chain sk l p
     unfolding chain_step
     chain_still g = sym (turn ∙ rw (still (longest_replacement (replacement true sk (take len cur)) l) (sym e ∙ g)))
 
-    pub chain_stopped : (x : Refusal) → s ≡ Refused x → stopped x ≡ chain sk l p
+    pub chain_stopped : (x : Refusal) → s ≡ Err x → stopped x ≡ chain sk l p
     chain_stopped x g =
         sym (turn ∙ ended (chain_from sk l (n - (k + 1))) (take len cur) k (longest_replacement (replacement true sk (take len cur)) l) x (sym e ∙ g))
 
-    module _ (m : ℕ) (g : s ≡ Made m) where
+    module _ (m : ℕ) (g : s ≡ Ok (Some m)) where
       w : Went (longest_replacement (replacement true sk (take len cur)) l) m
       w = went (longest_replacement (replacement true sk (take len cur)) l) m (sym e ∙ g)
 

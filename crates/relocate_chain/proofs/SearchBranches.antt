@@ -1,12 +1,13 @@
 -- Lemmas about the branches of the search for the longest source.
+use Rattle.std.specs.Prelude.{Option, Some, None}
+use Rattle.std.specs.Option.{is_some}
 use mathlib.Core.Path.{◌≡◌, refl, sym, ap, ◌∙◌}
 use mathlib.Core.Logic.{◌≢◌}
 use mathlib.Core.Bool.{Bool, true, false, not, cond}
 use mathlib.Core.List.{List}
-use mathlib.Core.Option.{Option, none, some}
 use Prim.Native.Nat.{ℕ, ◌+◌, ◌-◌, ◌≤◌, ◌<◌}
 use lib.ListN.{length, take, drop}
-use Rattle.text.specs.Text.{Text, is_some, equal}
+use Rattle.text.specs.Text.{Text, equal}
 use Rattle.text.proofs.BoolLaws.{told, known_false, known_true, not_true, not_false}
 use Rattle.text.proofs.WriteLaws.{rest_whole}
 use Rattle.path_prefix.specs.Prefix.{has_prefix}
@@ -16,21 +17,10 @@ use Rattle.path_join.proofs.ReplaceLaws.{replace_prefix_lem, replace_other}
 use Rattle.pair_list.specs.Pair.{Pair, pair, pair_at, source_at}
 use Rattle.pair_list.specs.Places.{pairs_in, key_at}
 use Rattle.pair_list.specs.BestStep.{consider_index, best_below}
-use Rattle.pair_list.proofs.BestLaws.{search_none, search_on, step_fails, step_lighter, step_heavier, step_first}
+use Rattle.pair_list.proofs.BestLaws.{search_on}
 use Rattle.pair_list.proofs.PlaceLaws.{pairs_in_at, pair_is}
 use Rattle.relocate_chain.specs.Chain.{is_skipped, if_altered, replacement}
-use Rattle.relocate_chain.specs.Calls.{skipped_source}
 use Rattle.text.proofs.TextLaws.{nil_length, nil_not}
-
--- `is_skipped`
-module _ (skips : Bool) (k s : Text) where
-  pub skips_none : not skips ≡ true → false ≡ is_skipped (skipped_source skips k) s
-  unfolding is_skipped
-  skips_none h = rw (not_true skips h)
-
-  pub skips_equal : not skips ≡ false → (r : Bool) → r ≡ equal s k → r ≡ is_skipped (skipped_source skips k) s
-  unfolding is_skipped
-  skips_equal h r e = rw (not_false skips h) e
 
 -- `replaces`
 module _ (alters : Bool) (p s t : Text) (x : Bool) (hx : x ≡ has_prefix p s) where
@@ -38,7 +28,7 @@ module _ (alters : Bool) (p s t : Text) (x : Bool) (hx : x ≡ has_prefix p s) w
   unfolding if_altered
   replaces_not l = rw (replace_other p s t (known_false hx l)) (go alters)
     where
-      go : (b : Bool) → false ≡ is_some (cond b none none)
+      go : (b : Bool) → false ≡ is_some {T = Text} (cond b None None)
       go true = refl
       go false = refl
 
@@ -54,23 +44,23 @@ module _ (alters : Bool) (p s t : Text) (x : Bool) (hx : x ≡ has_prefix p s) w
   replaces_other l a y e =
       rw (not_false alters a, replace_prefix_lem p s t (known_true hx l), ← (rest_whole p (length s)), ← e) (go y)
     where
-      go : (y : Bool) → not y ≡ is_some (cond y none (some (join s t (take (length p - length s) (drop (length s) p)))))
+      go : (y : Bool) → not y ≡ is_some (cond y None (Some (join s t (take (length p - length s) (drop (length s) p)))))
       go true = refl
       go false = refl
 
 -- `is_candidate`
-module _ (alters skips : Bool) (k p s t : Text) where
-  pub tries_deleted : length t ≡ 0 → false ≡ is_some (replacement alters (skipped_source skips k) p (pair s t))
+module _ (alters : Bool) (skip : Option Text) (p s t : Text) where
+  pub tries_deleted : length t ≡ 0 → false ≡ is_some (replacement alters skip p (pair s t))
   unfolding replacement
   tries_deleted h = rw (nil_length t h)
 
-  module _ (h : length t ≢ 0) (x : Bool) (hx : x ≡ is_skipped (skipped_source skips k) s) where
-    pub tries_skipped : x ≡ true → false ≡ is_some (replacement alters (skipped_source skips k) p (pair s t))
+  module _ (h : length t ≢ 0) (x : Bool) (hx : x ≡ is_skipped skip s) where
+    pub tries_skipped : x ≡ true → false ≡ is_some (replacement alters skip p (pair s t))
     unfolding replacement
     tries_skipped l = rw (nil_not t h, told hx l)
 
     pub tries_replaced : x ≡ false → (r : Bool) → r ≡ is_some (cond alters (if_altered p (replace_prefix p s t)) (replace_prefix p s t))
-        → r ≡ is_some (replacement alters (skipped_source skips k) p (pair s t))
+        → r ≡ is_some (replacement alters skip p (pair s t))
     unfolding replacement
     tries_replaced l r e = rw (nil_not t h, told hx l) e
 
@@ -86,4 +76,4 @@ source_on t store places n i a a' b s u h m hs hu e c =
     let x : pair s u ≡ pair_at (pairs_in store places n) i = pair_is store places i s u hs hu ∙ sym (pairs_in_at store places n i m) in
     search_on _ _ i a a' b (length s) h (e ∙ ap (λ (y : Pair). is_some (t y)) x) (ap (λ (y : Pair). length y.source) x) c
 
-pub ruleset searching = (skips_none, skips_equal, replaces_not, replaces_any, replaces_long, replaces_other, tries_deleted, tries_skipped, tries_replaced, step_fails, step_lighter, step_heavier, step_first, search_none)
+pub ruleset searching = (replaces_not, replaces_any, replaces_long, replaces_other, tries_deleted, tries_skipped, tries_replaced)

@@ -1,8 +1,8 @@
 -- Meaning: Chaining: replacing prefixes of a path by the pairs of a relocate list, one pair after another. Requirements: "maps measure a key in
 -- elements, chaining measures it in bytes".
-use Rattle.std.specs.Prelude.{ℕ, zero, suc, Bool, true, false, cond, List, length}
-use Rattle.std.proofs.Math.Option.{Option, none, some, get_or}
-use Rattle.text.specs.Text.{Text, is_nil, is_some, equal}
+use Rattle.std.specs.Option.{unwrap_or, is_some}
+use Rattle.std.specs.Prelude.{ℕ, zero, suc, Bool, true, false, cond, List, length, Option, Some, None}
+use Rattle.text.specs.Text.{Text, is_nil, equal}
 use Rattle.path_join.specs.Join.{replace_prefix}
 use Rattle.pair_list.specs.Pair.{Pair, pair_at, source_at}
 use Rattle.pair_list.specs.Best.{best_index}
@@ -16,8 +16,8 @@ longest_source replacement l n = best_index (λ (i : ℕ). is_some (replacement 
 
 -- The path that the pair found yields; none if no pair was found.
 abbrev pub replacement_at : (Pair → Option Text) → List Pair → Option ℕ → Option Text
-replacement_at replacement l none = none
-replacement_at replacement l (some i) = replacement (pair_at l i)
+replacement_at replacement l None = None
+replacement_at replacement l (Some i) = replacement (pair_at l i)
 
 -- The path that the pair with the longest source yields; none if no pair yields one.
 unfoldable pub longest_replacement : (Pair → Option Text) → List Pair → Option Text
@@ -27,22 +27,22 @@ longest_replacement replacement l = replacement_at replacement l (longest_source
 -- Whether the pairs with source s are skipped. Requirements: "pairs with the skipped source, where the caller names one, are left aside".
 unfoldable pub is_skipped : Option Text → Text → Bool
 unfolding equal
-is_skipped none s = false
-is_skipped (some k) s = equal s k
+is_skipped None s = false
+is_skipped (Some k) s = equal s k
 
 -- The path made, if it differs from p.
 unfoldable pub if_altered : Text → Option Text → Option Text
 unfolding equal
-if_altered p none = none
-if_altered p (some q) = cond (equal q p) none (some q)
+if_altered p None = None
+if_altered p (Some q) = cond (equal q p) None (Some q)
 
 -- The path that a pair yields: none if its target is empty or its source is skipped, and, if `alters` is set, none if the path stays the
 -- same.
 unfoldable pub replacement : Bool → Option Text → Text → Pair → Option Text
 unfolding is_skipped if_altered replace_prefix
 replacement alters skip p x =
-    cond (is_nil x.target) none
-    (cond (is_skipped skip x.source) none
+    cond (is_nil x.target) None
+    (cond (is_skipped skip x.source) None
     (cond alters (if_altered p (replace_prefix p x.source x.target)) (replace_prefix p x.source x.target)))
 
 -- The path after one replacement. Requirements: "among non-empty targets that alter the path".
@@ -63,8 +63,8 @@ continue_chain on k (refused x) = stopped x
 -- Continues the chain after a search for a replacement: without one, the chain ends at p. Requirements: "in chaining 7 and 8 to each step".
 unfoldable pub chain_step : (Text → ℕ → Chained) → Text → ℕ → Option Text → Chained
 unfolding checked
-chain_step on p k none = chained p k
-chain_step on p k (some q) = continue_chain on k (checked q)
+chain_step on p k None = chained p k
+chain_step on p k (Some q) = continue_chain on k (checked q)
 
 -- The chain from p after k replacements, with at most n more. Requirements: "at most as many replacements as there are pairs".
 unfoldable pub chain_from : Option Text → List Pair → ℕ → Text → ℕ → Chained
@@ -81,4 +81,4 @@ chain skip l p = chain_from skip l (length l) p 0
 -- the endpoint itself. (Rust: shift_through_nearest_ancestor)
 unfoldable pub shift_through_nearest_ancestor : List Pair → Text → Text
 unfolding longest_replacement replacement
-shift_through_nearest_ancestor l p = get_or (longest_replacement (replacement false (some p) p) l) p
+shift_through_nearest_ancestor l p = unwrap_or (longest_replacement (replacement false (Some p) p) l) p

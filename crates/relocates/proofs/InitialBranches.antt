@@ -20,7 +20,7 @@ use Rattle.relocates.specs.declared.RelocateOccurrence.{RelocateOccurrence}
 use Rattle.relocates.specs.declared.RelocateOccurrence.TheVariants.{Active, DroppedStructural, DroppedDuplicateSource, DroppedConflict}
 use Rattle.relocates.specs.Status.{status_byte, any_below, is_structural, claims_source, is_duplicate, can_conflict, conflicts_with, has_conflict_among, has_conflict, occurrence_or, occurrence, status_bytes, status_list}
 use Rattle.relocates.specs.Initial.{initial_statuses, HoldsInitialStatuses}
-use Rattle.relocates.proofs.StatusBranches.{some_same, some_hit, some_on, duplicate_in}
+use Rattle.relocates.proofs.StatusBranches.{some_same, duplicate_in}
 
 -- `initial_occurrence`
 module _ (store : Text) (places : List ℕ) (i : ℕ) (s t : Text) (hs : s ≡ key_at store places false i) (ht : t ≡ key_at store places true i)
@@ -169,14 +169,16 @@ module _ (store : Text) (places : List ℕ) (n : ℕ) (out₀ : Text) where
   unfolding status_list
   settle_begin = refl
 
-  settle_by : (out : Text) (i v : ℕ) → n ≤ length out₀ → i < n → out ≡ written (status_list (pairs_in store places n) i) out₀ → v ≡ status_byte (occurrence (pairs_in store places n) i)
+  pub settle_on : (out : Text) (i v : ℕ) → n ≤ length out₀ → i < n → out ≡ written (status_list (pairs_in store places n) i) out₀ → v ≡ status_byte (occurrence (pairs_in store places n) i)
       → set out i v ≡ written (status_list (pairs_in store places n) (i + 1)) out₀
   unfolding status_list
-  settle_by out i v g h e k = bytes_on (occurrence (pairs_in store places n)) out₀ out i v (omega arith) e k
+  settle_on out i v g h e k = bytes_on (occurrence (pairs_in store places n)) out₀ out i v (omega arith) e k
 
   pub settle_end : (out : Text) (i : ℕ) → n ≤ i → i ≤ n → out ≡ written (status_list (pairs_in store places n) i) out₀ → out ≡ written (status_list (pairs_in store places n) n) out₀
   settle_end out i g h e = let z : i ≡ n = omega arith in rw z at e
 
+-- The final status of pair i.
+module _ (store : Text) (places : List ℕ) (n : ℕ) where
   module _ (first : List ℕ) (m : HoldsInitialStatuses (pairs_in store places n) first) where
     at_initial : (i : ℕ) → i < n → get_or first i 0 ≡ status_byte (occurrence_or Active (pairs_in store places n) i)
     unfolding HoldsInitialStatuses
@@ -188,24 +190,16 @@ module _ (store : Text) (places : List ℕ) (n : ℕ) (out₀ : Text) where
         conflict_is l i
         ∙ conflict_among store places n first (can_conflict l) (λ j k. ap (λ (v : ℕ). eqb v 0) (at_initial j k) ∙ conflicting l j) i h
 
-    -- At pair i, with the statuses before it written.
-    module _ (i : ℕ) (h : i < n) (out : Text) (e : out ≡ written (status_list (pairs_in store places n) i) out₀) (g : n ≤ length out₀) where
-      pub settle_dropped : get_or first i 0 ≢ 0 → set out i (get_or first i 0) ≡ written (status_list (pairs_in store places n) (i + 1)) out₀
-      settle_dropped d = settle_by out i (get_or first i 0) g h e (kept (pairs_in store places n) i (get_or first i 0) (at_initial i h) d)
+    module _ (i : ℕ) (h : i < n) where
+      pub final_dropped : get_or first i 0 ≢ 0 → get_or first i 0 ≡ status_byte (occurrence (pairs_in store places n) i)
+      final_dropped d = kept (pairs_in store places n) i (get_or first i 0) (at_initial i h) d
 
-      module _ (z : get_or first i 0 ≡ 0) (now : Text) (at j v : ℕ) (s : at ≡ i) (u : now ≡ out) where
-        settled : (b : Bool) → any_below n (reason store places first i) ≡ b → occurrence (pairs_in store places n) i ≡ cond b DroppedConflict Active
-        settled b k = decided (pairs_in store places n) i (sym z ∙ at_initial i h) ∙ rw (conflict_in i h, k)
+      module _ (z : get_or first i 0 ≡ 0) (b : Bool) (hb : b ≡ any_below n (reason store places first i)) where
+        settled : status_byte (occurrence (pairs_in store places n) i) ≡ status_byte (cond b DroppedConflict Active)
+        settled = ap status_byte (decided (pairs_in store places n) i (sym z ∙ at_initial i h) ∙ rw (conflict_in i h, ← hb))
 
-        pub settle_conflict : j < n → (b : Bool) → b ≡ reason store places first at j → b ≡ true → v ≡ 3 → set now at v ≡ written (status_list (pairs_in store places n) (at + 1)) out₀
-        settle_conflict k b r t w =
-            rw (s, u)
-            (settle_by out i v g h e (w ∙ ap status_byte (sym (settled true (some_hit (reason store places first i) n j k (rw s at (told r t)))))))
+        pub final_conflict : b ≡ true → (v : ℕ) → v ≡ status_byte DroppedConflict → v ≡ status_byte (occurrence (pairs_in store places n) i)
+        final_conflict l v w = w ∙ sym (rw l at settled)
 
-        pub settle_active : n ≤ j → j ≤ n → any_below j (reason store places first at) ≡ false → v ≡ 0 → set now at v ≡ written (status_list (pairs_in store places n) (at + 1)) out₀
-        settle_active k f r w =
-            let y : j ≡ n = omega arith in
-            rw (s, u) (settle_by out i v g h e (w ∙ ap status_byte (sym (settled false (rw (y, s) at r)))))
-
-pub seek_on : (f : ℕ → Bool) (j : ℕ) (b : Bool) → any_below j f ≡ false → b ≡ f j → b ≡ false → any_below (j + 1) f ≡ false
-seek_on f j b h e l = some_on f j h (told e l)
+        pub final_active : b ≡ false → (v : ℕ) → v ≡ status_byte Active → v ≡ status_byte (occurrence (pairs_in store places n) i)
+        final_active l v w = w ∙ sym (rw l at settled)

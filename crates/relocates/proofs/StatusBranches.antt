@@ -1,18 +1,20 @@
 -- Lemmas about the branches of the tests on pairs.
+use Rattle.std.specs.Bool.{MatchBool}
+use Rattle.std.specs.List.{range_with_len, AllWithin, HoldsAt}
+use Rattle.std.proofs.lemmas.List.FromFn.{length-range_with_len, get_or-range_with_len}
 use mathlib.Core.Path.{◌≡◌, refl, sym, ap, ◌∙◌}
 use mathlib.Core.Logic.{◌≢◌}
 use mathlib.Core.Bool.{Bool, true, false, not, ◌&&◌}
 use mathlib.Core.List.{List}
-use Prim.Native.Nat.{ℕ, zero, suc, ◌+◌, ◌≤◌, ◌<◌}
+use Prim.Native.Nat.{ℕ, zero, suc, ◌+◌, ◌<◌}
 use native.Mathlib.Omega.{arith}
-use native.Mathlib.Numerals.{add-one}
 use native.Mathlib.Decide.{ℕ_discrete}
 use lib.Dec.{eqb}
-use lib.ListN.{length}
+use lib.ListN.{length, get_or}
 use borrow.Author.Tests.{eq-eqb, ne_eqb}
 use Rattle.text.specs.Text.{Text, is_nil, equal}
 use Rattle.text.proofs.TextLaws.{nil_length, nil_not}
-use Rattle.text.proofs.BoolLaws.{told, known_false, known_true, or_right, and_no, and_yes}
+use Rattle.text.proofs.BoolLaws.{told, or_right, and_no, and_yes}
 use Rattle.path_prefix.specs.Prefix.{has_prefix}
 use Rattle.path_prefix.specs.Elements.{prim_element_count}
 use Rattle.pair_list.specs.Pair.{Pair, pair, pair_at}
@@ -49,15 +51,15 @@ pub ruleset structure = (structural_deletes, structural_root, structural_equal, 
 
 -- `claims_source`
 module _ (store : Text) (places : List ℕ) (k : ℕ) (u s : Text) (h : s ≡ key_at store places false k) (a : Bool) (ha : a ≡ equal s u) where
-  pub claims_other : not a ≡ true → false ≡ claims_source (pair_in store places k) u
+  pub claims_other : a ≡ false → false ≡ claims_source (pair_in store places k) u
   unfolding claims_source
   claims_other l =
       let t : Text = key_at store places true k in
-      rw (← (pair_is store places k s t h refl), known_false ha l) (sym (and_no (not (is_structural (pair s t)))))
+      rw (← (pair_is store places k s t h refl), told ha l) (sym (and_no (not (is_structural (pair s t)))))
 
-  pub claims_same : not a ≡ false → (t : Text) → t ≡ key_at store places true k → (b : Bool) → b ≡ is_structural (pair s t) → not b ≡ claims_source (pair_in store places k) u
+  pub claims_same : a ≡ true → (t : Text) → t ≡ key_at store places true k → (b : Bool) → b ≡ is_structural (pair s t) → not b ≡ claims_source (pair_in store places k) u
   unfolding claims_source
-  claims_same l t g b hb = rw (← (pair_is store places k s t h g), known_true ha l, ← hb) (sym (and_yes (not b)))
+  claims_same l t g b hb = rw (← (pair_is store places k s t h g), told ha l, ← hb) (sym (and_yes (not b)))
 
 pub ruleset reserving = (claims_other, claims_same)
 
@@ -73,13 +75,24 @@ some_hit f zero k h e = absurd (omega arith)
 some_hit f (suc n) k h e =
     elim (ℕ_discrete k n) [ yes q ↦ or_right (any_below n f) (f n) (rw q at e) | no d ↦ rw (some_hit f n k (omega arith) e) ]
 
-pub some_none : (f : ℕ → Bool) → any_below 0 f ≡ false
+some_miss : (f : ℕ → Bool) (n : ℕ) → ((k : ℕ) → k < n → f k ≡ false) → any_below n f ≡ false
 unfolding any_below
-some_none f = refl
+some_miss f zero h = refl
+some_miss f (suc n) h = rw (some_miss f n (λ k l. h k (omega arith)), h n (omega arith))
 
-pub some_on : (f : ℕ → Bool) (k : ℕ) → any_below k f ≡ false → f k ≡ false → any_below (k + 1) f ≡ false
-unfolding any_below
-some_on f k h e = rw (add-one k, h, e)
+at_own : (n k : ℕ) → k < n → get_or (range_with_len 0 n) k 0 ≡ k
+at_own n k h = get_or-range_with_len 0 n k 0 h ∙ omega arith
+
+-- What `(0..n).any(f)` answers.
+pub some_in_range : (f : ℕ → Bool) (n : ℕ) (r : Bool)
+    → MatchBool r ((k : ℕ) × (k < length (range_with_len 0 n)) × HoldsAt (λ j. f j ≡ true) (range_with_len 0 n) k)
+    (AllWithin (λ j. f j ≡ false) (range_with_len 0 n) 0 (length (range_with_len 0 n)))
+    → r ≡ any_below n f
+some_in_range f n true w =
+    let l : w.0 < n = omega (arith, w.1, length-range_with_len 0 n) in
+    let g : f (get_or (range_with_len 0 n) w.0 0) ≡ true = w.2 0 in
+    sym (some_hit f n w.0 l (rw (at_own n w.0 l) at g))
+some_in_range f n false w = sym (some_miss f n (λ k l. let g : f (get_or (range_with_len 0 n) k 0) ≡ false = w k 0 (omega arith) (omega (arith, length-range_with_len 0 n)) in rw (at_own n k l) at g))
 
 -- `is_duplicate`: the sources are those of the list in lent memory.
 module _ (store : Text) (places : List ℕ) (n i : ℕ) (h : i < n) where
@@ -98,30 +111,10 @@ module _ (store : Text) (places : List ℕ) (n i : ℕ) (h : i < n) where
       duplicate_among (λ (k : ℕ). not (is_structural (pair_at (pairs_in store places n) k))) (λ (k : ℕ). not (is_structural (pair_in store places k)))
       (λ k l. ap (λ (x : Pair). not (is_structural x)) (pairs_in_at store places n k (omega arith)))
 
--- No pair before k reserves the source of pair i.
-abbrev pub NoneBefore : Text → List ℕ → ℕ → Text → ℕ → Type 0
-NoneBefore store places i s k = any_below k (λ (j : ℕ). claims_source (pair_in store places j) s) ≡ false
-
-module _ (store : Text) (places : List ℕ) (i : ℕ) (s : Text) where
-  pub none_begin : NoneBefore store places i s 0
-  none_begin = some_none (λ (j : ℕ). claims_source (pair_in store places j) s)
-
-  pub none_on : (k : ℕ) → NoneBefore store places i s k → (b : Bool) → b ≡ claims_source (pair_in store places k) s → b ≡ false → NoneBefore store places i s (k + 1)
-  none_on k h b e l = some_on (λ (j : ℕ). claims_source (pair_in store places j) s) k h (told e l)
-
-  module _ (g : s ≡ key_at store places false i) where
-    here : is_duplicate (pairs_in store places (i + 1)) i ≡ any_below i (λ (k : ℕ). claims_source (pair_in store places k) s)
-    here =
-        duplicate_in store places (i + 1) i (omega arith)
-        ∙ ap (λ (u : Text). any_below i (λ (k : ℕ). claims_source (pair_in store places k) u)) (sym (ap (λ (x : Pair). x.source) (pair_is store places i s (key_at store places true i) g refl)))
-
-    pub none_hit : (k : ℕ) → k < i → (b : Bool) → b ≡ claims_source (pair_in store places k) s → b ≡ true → true ≡ is_duplicate (pairs_in store places (i + 1)) i
-    none_hit k h b e l = sym (here ∙ some_hit (λ (j : ℕ). claims_source (pair_in store places j) s) i k h (told e l))
-
-    pub none_end : (k : ℕ) → i ≤ k → k ≤ i → NoneBefore store places i s k → false ≡ is_duplicate (pairs_in store places (i + 1)) i
-    none_end k h l e = let z : k ≡ i = omega arith in sym (here ∙ rw z at e)
-
-pub ruleset duplicates = (none_begin, none_on, none_hit, none_end)
+  pub duplicate_of : (s : Text) → n ≡ i + 1 → s ≡ key_at store places false i → (b : Bool) → b ≡ any_below i (λ (k : ℕ). claims_source (pair_in store places k) s) → b ≡ is_duplicate (pairs_in store places n) i
+  duplicate_of s e g b hb =
+      let z : (pair_in store places i).source ≡ s = ap (λ (x : Pair). x.source) (sym (pair_is store places i s (key_at store places true i) g refl)) in
+      hb ∙ sym (rw z at duplicate_in)
 
 -- `equal_non_empty`, `is_target_below`, `is_source_below`, `relocate_pair_conflicts`
 module _ (a b : Text) where

@@ -9,6 +9,8 @@ ghost use Rattle.std.specs.Prelude.{◌≡◌, length};
 ghost use Rattle.validate.specs.Validate.{lent_list};
 ghost use Rattle.relocates.specs.Calls.{analyze_reply, analyze_buffer};
 
+use refusal::Refusal;
+
 // Whether a pair of a relocate list takes part, or why it is dropped; specs/Status.antt defines the status
 // byte of each case.
 #[derive(Clone, Copy)]
@@ -25,19 +27,16 @@ pub fn analyze_relocate_occurrences(
     places: &[usize],
     count: usize,
     out: &mut [u8],
-) -> refusal::Reply
+) -> Result<usize, Refusal>
     ensures value { result ≡ analyze_reply (lent_list store.now places.now count)
         (length out.old) }
     ensures out_after { out.new ≡ analyze_buffer result (lent_list store.now places.now count)
         out.old }
 {
-    let q = validate::validate_list_and_path(store, places, count, b"");
-    if let refusal::Validation::Refused(x) = q {
-        return refusal::Reply::Refused(x);
-    }
+    validate::validate_list_and_path(store, places, count, b"")?;
     if out.len() < count {
-        return refusal::Reply::Refused(refusal::Refusal::NoRoom);
+        return Err(Refusal::NoRoom);
     }
     status::write_statuses(store, places, count, out);
-    refusal::Reply::Written(count)
+    Ok(count)
 }

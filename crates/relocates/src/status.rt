@@ -8,41 +8,34 @@ ghost use Rattle.pair_list_write.specs.Select.{written_entries};
 ghost use Rattle.pair_list.specs.Pair.{pair};
 ghost use Rattle.validate.specs.Validate.{lent_list};
 ghost use Rattle.relocates.specs.declared.RelocateOccurrence.TheVariants.{Active};
-ghost use Rattle.relocates.specs.Status.{is_structural, claims_source, is_duplicate, equal_non_empty, pair_conflicts, conflicts_with, occurrence_or, status_byte, status_list};
+ghost use Rattle.relocates.specs.Status.{is_structural, claims_source, is_duplicate, equal_non_empty, pair_conflicts, conflicts_with, occurrence_or, occurrence, status_byte, status_list};
 ghost use Rattle.relocates.specs.Initial.{initial_statuses, HoldsInitialStatuses};
 ghost use Rattle.relocates.specs.Select.{active_selection};
 
+use crate::RelocateOccurrence;
+
 // Returns whether the pair is structurally invalid, and so dropped whatever the other pairs are. (Rust:
 // relocate_invalid_reason)
+#[tactic(auto, using(crate::proofs::StatusBranches::structure))]
 pub fn is_structural(source: &[u8], target: &[u8]) -> bool
     ensures { result ≡ is_structural (pair source.now target.now) }
 {
-    if target.len() == 0 {
+    if target.is_empty() {
         return false;
     }
-    let n = path_prefix::prim_element_count(source).0;
-    if n == 1 {
-        return true;
-    }
-    if text::is_equal(source, target) {
-        return true;
-    }
-    if path_prefix::has_prefix(source, target) {
-        return true;
-    }
-    path_prefix::has_prefix(target, source)
+    path_prefix::prim_element_count(source).0 == 1
+        || text::is_equal(source, target)
+        || path_prefix::has_prefix(source, target)
+        || path_prefix::has_prefix(target, source)
 }
 
 // Returns whether pair k has this source and is not structural.
+#[tactic(auto, using(crate::proofs::StatusBranches::reserving))]
 fn claims_source(store: &[u8], places: &[usize], k: usize, source: &[u8]) -> bool
     ensures { result ≡ claims_source (pair_in store.now places.now k) source.now }
 {
     let s = pair_list::key_at(store, places, k, false);
-    if !text::is_equal(s, source) {
-        return false;
-    }
-    let t = pair_list::key_at(store, places, k, true);
-    !is_structural(s, t)
+    text::is_equal(s, source) && !is_structural(s, pair_list::key_at(store, places, k, true))
 }
 
 // Returns whether an earlier non-structural pair has the source of pair i. (Rust: duplicate_source_mask)
@@ -50,120 +43,100 @@ pub fn is_duplicate(store: &[u8], places: &[usize], i: usize) -> bool
     ensures { result ≡ is_duplicate (pairs_in store.now places.now (i + 1)) i }
 {
     let source = pair_list::key_at(store, places, i, false);
-    let mut k = 0;
-    while k < i {
-        if claims_source(store, places, k, source) {
-            return true;
-        }
-        k += 1;
-    }
-    false
+    (0..i).any(|k| claims_source(store, places, k, source))
 }
 
 // Returns whether the texts are equal and not empty.
+#[tactic(auto, using(crate::proofs::StatusBranches::reasons))]
 fn equal_non_empty(a: &[u8], b: &[u8]) -> bool
     ensures { result ≡ equal_non_empty a.now b.now }
 {
-    if b.len() == 0 {
-        return false;
-    }
-    text::is_equal(a, b)
+    !b.is_empty() && text::is_equal(a, b)
 }
 
 // Returns whether the target is not empty and is the other source or lies below it.
+#[tactic(auto, using(crate::proofs::StatusBranches::reasons))]
 fn is_target_below(target: &[u8], other: &[u8]) -> bool
     ensures { result ≡ (not (is_nil target.now) && has_prefix target.now other.now) }
 {
-    if target.len() == 0 {
-        return false;
-    }
-    path_prefix::has_prefix(target, other)
+    !target.is_empty() && path_prefix::has_prefix(target, other)
 }
 
 // Returns whether the source lies strictly below the other source.
+#[tactic(auto, using(crate::proofs::StatusBranches::reasons))]
 fn is_source_below(source: &[u8], other: &[u8]) -> bool
     ensures { result ≡ (not (equal source.now other.now) && has_prefix source.now
         other.now) }
 {
-    if text::is_equal(source, other) {
-        return false;
-    }
-    path_prefix::has_prefix(source, other)
+    !text::is_equal(source, other) && path_prefix::has_prefix(source, other)
 }
 
 // Returns whether the pair (sa, ta) conflicts with the pair (sb, tb).
+#[tactic(auto, using(crate::proofs::StatusBranches::reasons))]
 pub fn relocate_pair_conflicts(sa: &[u8], ta: &[u8], sb: &[u8], tb: &[u8]) -> bool
     ensures { result ≡ pair_conflicts (pair sa.now ta.now)
         (pair sb.now tb.now) }
 {
-    if is_target_below(ta, sb) {
-        return true;
-    }
-    if equal_non_empty(sa, tb) {
-        return true;
-    }
-    is_source_below(sa, sb)
+    is_target_below(ta, sb) || equal_non_empty(sa, tb) || is_source_below(sa, sb)
 }
 
 // Returns whether pair i conflicts with another pair j, or has the same non-empty target. `first` is the
 // status of pair j before the search for conflicts: 0 if j is neither structural nor a duplicate.
+#[tactic(auto, using(crate::proofs::StatusBranches::conflicting))]
 fn conflicts_with(store: &[u8], places: &[usize], i: usize, j: usize, first: u8) -> bool
     ensures { result ≡ (not (eqb i j) && eqb first 0 && conflicts_with
         (pair_in store.now places.now i) (pair_in store.now places.now j)) }
 {
-    if i == j {
-        return false;
-    }
-    if first != 0 {
+    if i == j || first != 0 {
         return false;
     }
     let sa = pair_list::key_at(store, places, i, false);
     let ta = pair_list::key_at(store, places, i, true);
     let sb = pair_list::key_at(store, places, j, false);
     let tb = pair_list::key_at(store, places, j, true);
-    if equal_non_empty(ta, tb) {
-        return true;
-    }
-    relocate_pair_conflicts(sa, ta, sb, tb)
+    equal_non_empty(ta, tb) || relocate_pair_conflicts(sa, ta, sb, tb)
 }
 
 // The status of pair i before the search for conflicts.
-fn initial_occurrence(store: &[u8], places: &[usize], i: usize) -> crate::RelocateOccurrence
+#[tactic(auto, using(crate::proofs::InitialBranches::firsts))]
+fn initial_occurrence(store: &[u8], places: &[usize], i: usize) -> RelocateOccurrence
     ensures { result ≡ occurrence_or Active (pairs_in store.now places.now (i + 1)) i }
 {
     let s = pair_list::key_at(store, places, i, false);
     let t = pair_list::key_at(store, places, i, true);
     if is_structural(s, t) {
-        return crate::RelocateOccurrence::DroppedStructural;
+        return RelocateOccurrence::DroppedStructural;
     }
     if is_duplicate(store, places, i) {
-        return crate::RelocateOccurrence::DroppedDuplicateSource;
+        return RelocateOccurrence::DroppedDuplicateSource;
     }
-    crate::RelocateOccurrence::Active
+    RelocateOccurrence::Active
 }
 
-// The status byte of an occurrence: 0 Active, 1 structural, 2 duplicate source, 3 conflict.
-pub fn status_byte(o: crate::RelocateOccurrence) -> u8
-    ensures { result ≡ status_byte o }
-{
-    match o {
-        crate::RelocateOccurrence::Active => 0,
-        crate::RelocateOccurrence::DroppedStructural => 1,
-        crate::RelocateOccurrence::DroppedDuplicateSource => 2,
-        crate::RelocateOccurrence::DroppedConflict => 3,
+// The status byte of an occurrence: 0 Active, 1 structural, 2 duplicate source, 3 conflict. Statuses are written as
+// bytes, since the C interface and the frames have them so.
+impl From<RelocateOccurrence> for u8 {
+    fn from(o: RelocateOccurrence) -> u8
+        ensures { result ≡ status_byte o }
+    {
+        match o {
+            RelocateOccurrence::Active => 0,
+            RelocateOccurrence::DroppedStructural => 1,
+            RelocateOccurrence::DroppedDuplicateSource => 2,
+            RelocateOccurrence::DroppedConflict => 3,
+        }
     }
 }
 
 // Writes the status bytes of the first n pairs before the search for conflicts.
+#[tactic(auto, using(crate::proofs::InitialBranches::writing_first))]
 fn write_initial(store: &[u8], places: &[usize], n: usize, out: &mut [u8])
     requires { n ≤ length out.old }
     ensures { out.new ≡ written
         (initial_statuses (pairs_in store.now places.now n) n) out.old }
 {
-    let mut i = 0;
-    while i < n {
-        out[i] = status_byte(initial_occurrence(store, places, i));
-        i += 1;
+    for i in 0..n {
+        out[i] = u8::from(initial_occurrence(store, places, i));
     }
 }
 
@@ -175,25 +148,19 @@ fn write_conflicts(store: &[u8], places: &[usize], n: usize, first: &[u8; 64], o
     ensures { out.new ≡ written (status_list (pairs_in store.now places.now n) n)
         out.old }
 {
-    let mut i = 0;
-    'pairs: while i < n {
+    'pairs: for i in 0..n {
         let own = first[i];
         if own != 0 {
             out[i] = own;
-            i += 1;
             continue 'pairs;
         }
-        let mut j = 0;
-        while j < n {
+        for j in 0..n {
             if conflicts_with(store, places, i, j, first[j]) {
-                out[i] = status_byte(crate::RelocateOccurrence::DroppedConflict);
-                i += 1;
+                out[i] = u8::from(RelocateOccurrence::DroppedConflict);
                 continue 'pairs;
             }
-            j += 1;
         }
-        out[i] = status_byte(crate::RelocateOccurrence::Active);
-        i += 1;
+        out[i] = u8::from(RelocateOccurrence::Active);
     }
 }
 
@@ -238,10 +205,8 @@ pub fn active_pairs(store: &[u8], places: &[usize], n: usize, kept: &mut [usize]
     let mut status = [0u8; 64];
     write_statuses(store, places, n, &mut status);
     let mut w = 0;
-    let mut i = 0;
-    while i < n {
+    for i in 0..n {
         w = keep_active(places, i, status[i], kept, w);
-        i += 1;
     }
     w
 }

@@ -1,4 +1,5 @@
 -- The proof of the round-trip requirement (demand 3) for the calls.
+use Rattle.std.specs.Prelude.{Result, Ok, Err, ⊤}
 use mathlib.Core.Path.{◌≡◌, refl, sym, ap, ◌∙◌}
 use mathlib.Core.Logic.{◌↔◌}
 use mathlib.Core.Bool.{Bool, true, false, cond}
@@ -15,9 +16,6 @@ use Rattle.path_grammar.specs.Own.{has_variant_selection}
 use Rattle.path_grammar.specs.Legal.{at_most255}
 use Rattle.pair_list.specs.Pair.{no_empty_source}
 use Rattle.refusal.specs.declared.Refusal.TheVariants.{NoRoom}
-use Rattle.refusal.specs.declared.Validation.{Validation}
-use Rattle.refusal.specs.declared.Validation.TheVariants.{Passed, Refused}
-use Rattle.refusal.specs.declared.Reply.TheVariants.{Written}
 use Rattle.refusal.specs.Outcome.{Outcome, path, refused, outcome_reply, outcome_buffer, require_room, after_checks}
 use Rattle.path.specs.Calls.{path_new_call}
 use Rattle.validate.specs.Validate.{first_refusal}
@@ -33,42 +31,43 @@ use Rattle.route.specs.Calls.{route_call}
 use Rattle.route.specs.RoundTrip.{first_legs, CallsReturnAlways}
 use Rattle.route.proofs.RunBranches.{fold_snoc}
 use Rattle.path.proofs.PathLaws.{new_passed}
+use Rattle.refusal.specs.declared.Refusal.{Refusal}
 
 -- If a call yields a path, validation passed and the route yields that path.
-pub answered_path : (a : Validation) (room : ℕ) (o : Outcome) (q : Text) → after_checks a room o ≡ path q → (a ≡ Passed) × (255 ≤ room) × (o ≡ path q)
+pub answered_path : (a : Result ⊤ Refusal) (room : ℕ) (o : Outcome) (q : Text) → after_checks a room o ≡ path q → (a ≡ Ok tt) × (255 ≤ room) × (o ≡ path q)
 unfolding after_checks require_room
-answered_path Passed room o q e = go (leb 255 room) refl e
+answered_path (Ok tt) room o q e = go (leb 255 room) refl e
   where
-    go : (b : Bool) → leb 255 room ≡ b → cond b o (refused NoRoom) ≡ path q → (Passed ≡ Passed) × (255 ≤ room) × (o ≡ path q)
+    go : (b : Bool) → leb 255 room ≡ b → cond b o (refused NoRoom) ≡ path q → (◌≡◌ {A = Result ⊤ Refusal} (Ok tt) (Ok tt)) × (255 ≤ room) × (o ≡ path q)
     go true h k = (refl, leb-true 255 room h, k)
     go false h k = absurd (no_path_lem k)
-answered_path (Refused x) room o q e = absurd (no_path_lem e)
+answered_path (Err x) room o q e = absurd (no_path_lem e)
 
-path_answered : (a : Validation) (room : ℕ) (o : Outcome) → a ≡ Passed → 255 ≤ room → after_checks a room o ≡ o
+path_answered : (a : Result ⊤ Refusal) (room : ℕ) (o : Outcome) → a ≡ Ok tt → 255 ≤ room → after_checks a room o ≡ o
 unfolding after_checks require_room
 path_answered a room o e h = rw (e, le-leb 255 room h)
 
 -- A reply of n bytes is a path of n bytes at the beginning of the buffer.
-written_path : (o : Outcome) (n : ℕ) (mem : Text) → outcome_reply o ≡ Written n → o ≡ path (take n (outcome_buffer o mem))
+written_path : (o : Outcome) (n : ℕ) (mem : Text) → outcome_reply o ≡ Ok n → o ≡ path (take n (outcome_buffer o mem))
 unfolding outcome_reply outcome_buffer
 written_path (path q) n mem e = let z : length q ≡ n = cc in ap path (rw (← z) (sym (read_back q mem)))
 written_path (refused x) n mem e = absurd (let z : ◌≡◌ {A = ℕ} 0 1 = cc in omega arith)
 
-stands : (p mem : Text) → (outcome_reply (path p) ≡ Written (length p)) × (take (length p) (outcome_buffer (path p) mem) ≡ p)
+stands : (p mem : Text) → (outcome_reply (path p) ≡ Ok (length p)) × (take (length p) (outcome_buffer (path p) mem) ≡ p)
 unfolding outcome_reply outcome_buffer
 stands p mem = (refl, read_back p mem)
 
-passes : first_refusal Passed Passed ≡ Passed
+passes : first_refusal (Ok tt) (Ok tt) ≡ Ok tt
 unfolding first_refusal
 passes = refl
 
 module _ (r : LentRoute) (p : Text) (plain : has_variant_selection p ≡ false) where
-  module _ (h : validate_route r (p ∷ []) ≡ Passed) where
+  module _ (h : validate_route r (p ∷ []) ≡ Ok tt) where
     plain_path : SelectionFreePath p
     unfolding at_most255
     plain_path = record { is_legal = route_legal r p h; is_short = le-leb (length p) 255 (route_short r p h); is_plain = plain }
 
-    legs_passed : (validate_route r [] ≡ Passed) × (path_new_call p ≡ Passed)
+    legs_passed : (validate_route r [] ≡ Ok tt) × (path_new_call p ≡ Ok tt)
     legs_passed = none_earlier (validate_route r []) (path_new_call p) (route_one_by_one r p ∙ h)
 
   -- The call home on the result of the call out.
@@ -93,12 +92,12 @@ last_ends [] x e = and_l (leg_ends x) true e
 last_ends (y ∷ xs) x e = last_ends xs x (and_r (leg_ends y) (route_ends (xs ++ x ∷ [])) e)
 
 module _ (r : LentRoute) (p : Text) (plain : has_variant_selection p ≡ false) (k room : ℕ) (t : Text) (e : route_call false (first_legs r k) p room ≡ path t)
-    (h : validate_route (first_legs r (suc k)) [] ≡ Passed) where
-  reached : (validate_route (first_legs r k) (p ∷ []) ≡ Passed) × (255 ≤ room) × (fold_legs outward (legs_in r k) p ≡ path t)
+    (h : validate_route (first_legs r (suc k)) [] ≡ Ok tt) where
+  reached : (validate_route (first_legs r k) (p ∷ []) ≡ Ok tt) × (255 ≤ room) × (fold_legs outward (legs_in r k) p ≡ path t)
   unfolding route_call run_route
   reached = rw (← first_legs_lem r k k) (answered_path (validate_route (first_legs r k) (p ∷ [])) room (fold_legs outward (legs_in (first_legs r k) k) p) t e)
 
-  validated_on : validate_route (first_legs r (suc k)) (p ∷ []) ≡ Passed
+  validated_on : validate_route (first_legs r (suc k)) (p ∷ []) ≡ Ok tt
   validated_on = sym (route_one_by_one (first_legs r (suc k)) p) ∙ rw (h, (legs_passed (first_legs r k) p plain reached.0).1) passes
 
   one_more : route_call false (first_legs r (suc k)) p room ≡ outward (leg_at r k) t

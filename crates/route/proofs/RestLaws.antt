@@ -1,4 +1,5 @@
 -- Lemmas about the rest over a route as the code computes it: for validated legs it is the rest of the definitions.
+use Rattle.std.specs.Prelude.{Option, Some, None}
 use mathlib.Core.Path.{◌≡◌, refl, ap, ◌∙◌}
 use mathlib.Core.Bool.{Bool, true, false, cond}
 use mathlib.Core.List.{List, [], ◌∷◌, map, reverse}
@@ -9,8 +10,6 @@ use Rattle.text.specs.Text.{Text}
 use Rattle.text.proofs.BoolLaws.{and_l, and_r}
 use Rattle.path_grammar.specs.Own.{has_variant_selection}
 use Rattle.refusal.specs.Outcome.{Outcome, path, refused}
-use Rattle.path_rest.specs.declared.Rest.{Rest}
-use Rattle.path_rest.specs.declared.Rest.TheVariants.{From, Nothing}
 use Rattle.path_rest.specs.Rest.{rest_text}
 use Rattle.validate.specs.Validate.{every, ValidList}
 use Rattle.map_spec.specs.Map.{Map}
@@ -26,7 +25,7 @@ use Rattle.route.specs.Unaltered.{unaltered_fast, rest_fast, route_rest_fast}
 use Rattle.route.proofs.FastLaws.{Whole, sound_map, out_leg, out_next, home_leg, home_next, every_reverse, map_reverse, sound_legs, prepared_maps, legs_length}
 
 -- The number of unaltered bytes over legs is that over their maps.
-unaltered_map : {A B : Type 0} (go : B → Text → Outcome) (rest : B → Text → Rest) (f : A → B) (xs : List A) (n : ℕ) (p : Text)
+unaltered_map : {A B : Type 0} (go : B → Text → Outcome) (rest : B → Text → Option ℕ) (f : A → B) (xs : List A) (n : ℕ) (p : Text)
     → unaltered_length (λ (x : A). go (f x)) (λ (x : A). rest (f x)) xs n p ≡ unaltered_length go rest (map f xs) n p
 unfolding unaltered_length
 unaltered_map go rest f [] n p = refl
@@ -43,7 +42,7 @@ unaltered_map {A} go rest f (x ∷ xs) n p = by (go (f x) p) (unaltered_map go r
     by (refused x) ih = refl
 
 -- It is the same for two ways over the legs if each leg yields the same, with the same rest, for the path that reaches it.
-module _ {A : Type 0} (C : Text → Type 0) (good : A → Bool) (f g : A → Text → Outcome) (rest_f restG : A → Text → Rest)
+module _ {A : Type 0} (C : Text → Type 0) (good : A → Bool) (f g : A → Text → Outcome) (rest_f restG : A → Text → Option ℕ)
     (same : (x : A) (p : Text) → good x ≡ true → C p → f x p ≡ g x p) (rests : (x : A) (p : Text) → good x ≡ true → C p → rest_f x p ≡ restG x p)
     (next : (x : A) (p q : Text) → good x ≡ true → C p → f x p ≡ path q → C q) where
   unaltered_same : (xs : List A) (n : ℕ) (p : Text) → every good xs ≡ true → C p → unaltered_length f rest_f xs n p ≡ unaltered_length g restG xs n p
@@ -103,18 +102,18 @@ module _ (s : LentRoute) where
   out_rests (suc n) (x ∷ legs) l e sound p c = go (has_variant_selection p) refl
     where
       go : (b : Bool) → has_variant_selection p ≡ b
-          → cond b Nothing (From (length p - unaltered_length outward (leg_rest false) (x ∷ legs) (length p) p))
-          ≡ cond b Nothing (From (length p - unaltered_length (leg_fast false) (plain_rest false) (maps_in s (suc n)) (length p) p))
+          → cond b None (Some (length p - unaltered_length outward (leg_rest false) (x ∷ legs) (length p) p))
+          ≡ cond b None (Some (length p - unaltered_length (leg_fast false) (plain_rest false) (maps_in s (suc n)) (length p) p))
       go true h = refl
       go false h =
           rw e
-          (ap (λ (k : ℕ). From (length p - k))
+          (ap (λ (k : ℕ). Some (length p - k))
           (out_unaltered (x ∷ legs) (length p) p sound (record { is_legal = c.is_legal; is_short = c.is_short; is_plain = h })))
 
   home_rests : (n : ℕ) (legs : List Leg) → length legs ≡ n → maps_in s n ≡ map leg_map legs → every sound_map (map leg_map legs) ≡ true → (p : Text) → Whole p
       → route_rest true legs p ≡ route_rest_fast true s n p
   unfolding route_rest route_rest_fast rest_fast is_stripped unaltered_over unaltered_fast
-  home_rests n legs l e sound p c = rw e (ap (λ (k : ℕ). From (length p - k)) (home_unaltered legs (length p) p sound c))
+  home_rests n legs l e sound p c = rw e (ap (λ (k : ℕ). Some (length p - k)) (home_unaltered legs (length p) p sound c))
 
   rest_maps : (home : Bool) (n : ℕ) (legs : List Leg) → length legs ≡ n → maps_in s n ≡ map leg_map legs → every sound_map (map leg_map legs) ≡ true → (p : Text) → Whole p
       → route_rest home legs p ≡ route_rest_fast home s n p

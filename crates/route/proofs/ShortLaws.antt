@@ -1,4 +1,5 @@
 -- Lemmas about the length of the result: every path that a route yields has at most 255 bytes.
+use Rattle.std.specs.Prelude.{Result, ⊤}
 use mathlib.Core.Path.{◌≡◌, refl}
 use mathlib.Core.Bool.{Bool, true, false}
 use mathlib.Core.List.{List, [], ◌∷◌, reverse}
@@ -9,7 +10,6 @@ use borrow.Author.Tests.{leb-true}
 use Rattle.text.specs.Text.{Text}
 use Rattle.path_grammar.specs.Legal.{at_most255}
 use Rattle.path_parts.proofs.StripLaws.{strip_shorter}
-use Rattle.refusal.specs.declared.Validation.{Validation}
 use Rattle.refusal.specs.Outcome.{Outcome, path, refused}
 use Rattle.path.specs.Calls.{path_new_call}
 use Rattle.validate.specs.Validate.{first_refusal}
@@ -25,6 +25,7 @@ use Rattle.route_legs.proofs.RouteLaws.{route_short}
 use Rattle.route.specs.Calls.{route_call}
 use Rattle.route.specs.Fast.{leg_fast, maps_in, run_route_fast, entering_path, after_route_validated}
 use Rattle.route.proofs.RunBranches.{short_leg}
+use Rattle.refusal.specs.declared.Refusal.{Refusal}
 
 short_fold : {A : Type 0} (go : A → Text → Outcome) → ((x : A) (p : Text) → Short (go x p)) → (xs : List A) (p : Text) → length p ≤ 255 → Short (fold_legs go xs p)
 unfolding fold_legs
@@ -47,7 +48,7 @@ enters_short false zero p h = h
 enters_short false (suc n) p h = omega (arith, strip_shorter p, h)
 enters_short true n p h = h
 
-pub short_after : (list : Validation) (back : Bool) (s : LentRoute) (p : Text) (room : ℕ) → Short (after_route_validated list back s p room)
+pub short_after : (list : Result ⊤ Refusal) (back : Bool) (s : LentRoute) (p : Text) (room : ℕ) → Short (after_route_validated list back s p room)
 unfolding after_route_validated
 short_after list back s p room =
     short_answered (first_refusal list (path_new_call p)) room (run_route_fast back s s.count (entering_path back s.count p))

@@ -1,4 +1,5 @@
 -- Lemmas about the number of unaltered bytes in the functions that map a path over legs.
+use Rattle.std.specs.Prelude.{Result, Ok, Err, Option}
 use mathlib.Core.Path.{◌≡◌, refl, sym, ap, ◌∙◌}
 use mathlib.Core.Bool.{Bool, true, false}
 use mathlib.Core.List.{List, [], ◌∷◌, ◌++◌, reverse, reverse-append}
@@ -7,11 +8,7 @@ use native.Mathlib.Omega.{arith}
 use lib.ListN.{length, take}
 use Rattle.text.specs.Text.{Text, written_if_fits}
 use Rattle.refusal.specs.declared.Refusal.{Refusal}
-use Rattle.refusal.specs.declared.Reply.{Reply}
-use Rattle.refusal.specs.declared.Reply.TheVariants.{Written, Refused}
 use Rattle.refusal.specs.Outcome.{Outcome, path, refused, outcome_reply, ReturnsPath}
-use Rattle.path_rest.specs.declared.Rest.{Rest}
-use Rattle.path_rest.specs.declared.Carried.{Carried}
 use Rattle.path_rest.specs.Rest.{rest_text}
 use Rattle.path_rest.specs.Carried.{reply_of, carried_rest, ReturnsCarried}
 use Rattle.path_rest.proofs.CarriedLaws.{without_rest, known_rest}
@@ -26,36 +23,36 @@ use Rattle.route.specs.Unaltered.{rest_length, unaltered_fast, HoldsRun}
 use Rattle.route.proofs.RunBranches.{written_refused, over_refused, over_inside, over_written, holds_path}
 
 -- `run_legs`: the leg's reply, and the length of the rest that it tells.
-module _ (home : Bool) (m : Map) (p buf made : Text) (c : Carried) (w : ReturnsCarried (leg_fast home m p) (plain_rest home m p) c buf made)
-    (r : Reply) (e : r ≡ reply_of c) (t : Text) (d : t ≡ rest_text p (carried_rest c)) where
+module _ (home : Bool) (m : Map) (p buf made : Text) (c : Result (ℕ × Option ℕ) Refusal) (w : ReturnsCarried (leg_fast home m p) (plain_rest home m p) c buf made)
+    (r : Result ℕ Refusal) (e : r ≡ reply_of c) (t : Text) (d : t ≡ rest_text p (carried_rest c)) where
   replied : ReturnsPath (leg_fast home m p) r buf made
   replied = without_rest (leg_fast home m p) (plain_rest home m p) c r buf made e w
 
-  rest_told : (n : ℕ) → r ≡ Written n → length t ≡ rest_length home m p
+  rest_told : (n : ℕ) → r ≡ Ok n → length t ≡ rest_length home m p
   unfolding rest_length
   rest_told n k =
       ap length (d ∙ ap (rest_text p) (known_rest (outcome_reply (leg_fast home m p)) (plain_rest home m p) c w.0 n (sym e ∙ k)))
 
-  pub run_over_refused : (x : Refusal) → r ≡ Refused x → (mem : Text) → HoldsRun (leg_fast home m p) (rest_length home m p) (record { reply = r; unaltered = length t }) mem
+  pub run_over_refused : (x : Refusal) → r ≡ Err x → (mem : Text) → HoldsRun (leg_fast home m p) (rest_length home m p) (record { reply = r; unaltered = length t }) mem
   run_over_refused x k mem = record { outcome = over_refused (leg_fast home m p) r mem replied.0 x k; unaltered_is = rest_told }
 
-  module _ (n : ℕ) (k : r ≡ Written n) where
+  module _ (n : ℕ) (k : r ≡ Ok n) where
     pub run_over_inside : n ≤ length made
     run_over_inside = over_inside home m p buf made r replied n k
 
     pub run_over_written : (here here' : Text) → length here ≡ 255 → here' ≡ written_if_fits 0 (take n made) here
-        → HoldsRun (leg_fast home m p) (rest_length home m p) (record { reply = Written n; unaltered = length t }) here'
+        → HoldsRun (leg_fast home m p) (rest_length home m p) (record { reply = Ok n; unaltered = length t }) here'
     run_over_written here here' l g = record {
       outcome = over_written home m p buf made r replied n k here here' l g;
       unaltered_is = λ j e. rest_told n k;
     }
 
 -- A run that was refused holds whatever is said of unaltered bytes.
-pub refused_run : (o : Outcome) (n : ℕ) (r : Run) (mem : Text) (x : Refusal) → HoldsOutcome o r.reply mem → r.reply ≡ Refused x → HoldsRun o n r mem
+pub refused_run : (o : Outcome) (n : ℕ) (r : Run) (mem : Text) (x : Refusal) → HoldsOutcome o r.reply mem → r.reply ≡ Err x → HoldsRun o n r mem
 refused_run o n r mem x h e = record { outcome = h; unaltered_is = λ m k. absurd (written_refused m x (sym k ∙ e)) }
 
 -- One more leg at the end.
-unaltered_snoc : {A : Type 0} (go : A → Text → Outcome) (rest : A → Text → Rest) (xs : List A) (x : A) (n : ℕ) (p q t : Text) → fold_legs go xs p ≡ path q → go x q ≡ path t
+unaltered_snoc : {A : Type 0} (go : A → Text → Outcome) (rest : A → Text → Option ℕ) (xs : List A) (x : A) (n : ℕ) (p q t : Text) → fold_legs go xs p ≡ path q → go x q ≡ path t
     → unaltered_length go rest (xs ++ x ∷ []) n p ≡ min (unaltered_length go rest xs n p) (length (rest_text q (rest x q)))
 unfolding fold_legs unaltered_length
 unaltered_snoc go rest [] x n p q t e h = let z : p ≡ q = cc in rw (z, h)
@@ -85,15 +82,15 @@ module _ (store : Text) (places legs : List ℕ) (n : ℕ) where
 
   pub out_fewer : (len : ℕ) (p : Text) (k at : ℕ) (here : Text) → fold_legs (leg_fast false) (maps_in (route n) k) p ≡ path (take at here) → (u : ℕ) → after k len p ≡ u
       → (r : Run) (here' : Text) → HoldsRun (leg_fast false (map_at (route k) k) (take at here)) (rest_length false (map_at (route k) k) (take at here)) r here'
-      → (m : ℕ) → r.reply ≡ Written m → (u' : ℕ) → u' ≡ min u r.unaltered → after (k + 1) len p ≡ u'
+      → (m : ℕ) → r.reply ≡ Ok m → (u' : ℕ) → u' ≡ min u r.unaltered → after (k + 1) len p ≡ u'
   unfolding maps_in map_at list_at rest_length
   out_fewer len p k at here e u f r here' h m w u' g =
       let z : k + 1 ≡ suc k = omega arith in
       let made : leg_fast false (map_at (route n) k) (take at here) ≡ path (take m here') = holds_path (leg_fast false (map_at (route k) k) (take at here)) r.reply here' h.outcome m w in
       rw (z, g, ← f, h.unaltered_is m w) (unaltered_snoc (leg_fast false) (plain_rest false) (maps_in (route n) k) (map_at (route n) k) len p (take at here) (take m here') e made)
 
-  pub out_all : (len : ℕ) (p : Text) (k at : ℕ) (here : Text) (u : ℕ) → n ≤ k → k ≤ n → after k len p ≡ u → HoldsOutcome (run_route_fast false (route n) n p) (Written at) here
-      → HoldsRun (run_route_fast false (route n) n p) (unaltered_fast false (route n) n len p) (record { reply = Written at; unaltered = u }) here
+  pub out_all : (len : ℕ) (p : Text) (k at : ℕ) (here : Text) (u : ℕ) → n ≤ k → k ≤ n → after k len p ≡ u → HoldsOutcome (run_route_fast false (route n) n p) (Ok at) here
+      → HoldsRun (run_route_fast false (route n) n p) (unaltered_fast false (route n) n len p) (record { reply = Ok at; unaltered = u }) here
   unfolding unaltered_fast
   out_all len p k at here u a b f h = let z : k ≡ n = omega arith in record { outcome = h; unaltered_is = λ m w. sym (rw z at f) }
 
@@ -112,7 +109,7 @@ module _ (store : Text) (places legs : List ℕ) (n : ℕ) where
 
   pub home_fewer : (total : ℕ) (k at : ℕ) (here : Text) → 0 < k → (u : ℕ) → before k u (take at here) ≡ total
       → (r : Run) (here' : Text) → HoldsRun (leg_fast true (map_at (route (k - 1)) (k - 1)) (take at here)) (rest_length true (map_at (route (k - 1)) (k - 1)) (take at here)) r here'
-      → (m : ℕ) → r.reply ≡ Written m → (u' : ℕ) → u' ≡ min u r.unaltered → before (k - 1) u' (take m here') ≡ total
+      → (m : ℕ) → r.reply ≡ Ok m → (u' : ℕ) → u' ≡ min u r.unaltered → before (k - 1) u' (take m here') ≡ total
   unfolding map_at list_at rest_length
   home_fewer total k at here l u f r here' h m w u' g =
       let z : suc (k - 1) ≡ k = omega (arith, l) in
@@ -121,7 +118,7 @@ module _ (store : Text) (places legs : List ℕ) (n : ℕ) where
       rw (g, h.unaltered_is m w) (sym (last_first (k - 1) u (take at here) (take m here') made) ∙ all)
 
   pub home_all : (len : ℕ) (p : Text) (k at : ℕ) (here : Text) (u : ℕ) → k ≤ 0 → before k u (take at here) ≡ unaltered_fast true (route n) n len p
-      → HoldsOutcome (run_route_fast true (route n) n p) (Written at) here
-      → HoldsRun (run_route_fast true (route n) n p) (unaltered_fast true (route n) n len p) (record { reply = Written at; unaltered = u }) here
+      → HoldsOutcome (run_route_fast true (route n) n p) (Ok at) here
+      → HoldsRun (run_route_fast true (route n) n p) (unaltered_fast true (route n) n len p) (record { reply = Ok at; unaltered = u }) here
   unfolding maps_in unaltered_length
   home_all len p k at here u b f h = let z : k ≡ 0 = omega arith in record { outcome = h; unaltered_is = λ m w. rw z at f }

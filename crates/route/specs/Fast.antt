@@ -1,12 +1,8 @@
 -- Method: The route as the code computes it, over legs that are all maps: each leg by the fast mapping of crates/map_apply. proofs/FastLaws.antt
 -- proves that the result is that of the definitions.
-use Rattle.std.specs.Prelude.{◌≡◌, ℕ, zero, suc, ◌≤◌, Bool, true, false, cond, List, [], ◌∷◌, ◌++◌, reverse, length, take}
+use Rattle.std.specs.Prelude.{◌≡◌, ℕ, zero, suc, ◌≤◌, Bool, true, false, List, [], ◌∷◌, ◌++◌, reverse, length, take, Result, Ok, Err, ⊤}
 use Rattle.text.specs.Text.{Text}
 use Rattle.path_parts.specs.Strip.{strip}
-use Rattle.refusal.specs.declared.Validation.{Validation}
-use Rattle.refusal.specs.declared.Validation.TheVariants.{Passed, Refused as RefusedValidation}
-use Rattle.refusal.specs.declared.Reply.{Reply}
-use Rattle.refusal.specs.declared.Reply.TheVariants.{Written, Refused}
 use Rattle.refusal.specs.Outcome.{Outcome, path, refused, after_checks}
 use Rattle.path.specs.Calls.{path_new_call}
 use Rattle.map_spec.specs.Map.{Map}
@@ -15,6 +11,7 @@ use Rattle.validate.specs.Validate.{first_refusal}
 use Rattle.route_spec.specs.Route.{fold_legs}
 use Rattle.route_legs.specs.LentRoute.{LentRoute, map_at}
 use Rattle.route_maps.specs.Prepared.{has_relocates}
+use Rattle.refusal.specs.declared.Refusal.{Refusal}
 
 -- One leg; in the direction out for a path without selections.
 unfoldable pub leg_fast : Bool → Map → Text → Outcome
@@ -46,17 +43,17 @@ unfoldable pub HoldsPath : Text → ℕ → Text → Type 0
 HoldsPath t k mem = (take k mem ≡ t) × (k ≤ 255)
 
 -- The reply and the buffer hold the outcome of a route: the path at the beginning of the buffer, or the refusal.
-unfoldable pub HoldsOutcome : Outcome → Reply → Text → Type 0
-HoldsOutcome (path q) r mem = (r ≡ Written (length q)) × (take (length q) mem ≡ q)
-HoldsOutcome (refused x) r mem = r ≡ Refused x
+unfoldable pub HoldsOutcome : Outcome → Result ℕ Refusal → Text → Type 0
+HoldsOutcome (path q) r mem = (r ≡ Ok (length q)) × (take (length q) mem ≡ q)
+HoldsOutcome (refused x) r mem = r ≡ Err x
 
 -- Whether the legs' maps must be prepared: the route passed validation and has a relocate list.
-unfoldable pub needs_maps : Validation → List ℕ → ℕ → Bool
+unfoldable pub needs_maps : Result ⊤ Refusal → List ℕ → ℕ → Bool
 unfolding has_relocates
-needs_maps Passed legs n = has_relocates legs n
-needs_maps (RefusedValidation x) legs n = false
+needs_maps (Ok tt) legs n = has_relocates legs n
+needs_maps (Err x) legs n = false
 
 -- The outcome for a path over a route that was validated before, with the result `list`: only the path remains to be validated.
-unfoldable pub after_route_validated : Validation → Bool → LentRoute → Text → ℕ → Outcome
+unfoldable pub after_route_validated : Result ⊤ Refusal → Bool → LentRoute → Text → ℕ → Outcome
 unfolding first_refusal path_new_call after_checks run_route_fast entering_path
 after_route_validated list home s p room = after_checks (first_refusal list (path_new_call p)) room (run_route_fast home s s.count (entering_path home s.count p))

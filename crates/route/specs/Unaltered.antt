@@ -1,10 +1,7 @@
 -- Method: How the code finds the rest of a path over a route: how many bytes at the end of the path came unaltered over the legs so far.
-use Rattle.std.specs.Prelude.{◌≡◌, ℕ, ◌-◌, Bool, true, false, cond, List, reverse, length}
+use Rattle.std.specs.Prelude.{◌≡◌, ℕ, ◌-◌, Bool, true, false, cond, reverse, length, Ok, Option, Some, None}
 use Rattle.text.specs.Text.{Text}
-use Rattle.refusal.specs.declared.Reply.TheVariants.{Written}
 use Rattle.refusal.specs.Outcome.{Outcome}
-use Rattle.path_rest.specs.declared.Rest.{Rest}
-use Rattle.path_rest.specs.declared.Rest.TheVariants.{From, Nothing}
 use Rattle.path_rest.specs.Rest.{rest_text}
 use Rattle.map_spec.specs.Map.{Map}
 use Rattle.map_apply.specs.Fast.{plain_rest}
@@ -25,15 +22,15 @@ unaltered_fast false s n start p = unaltered_length (leg_fast false) (plain_rest
 unaltered_fast true s n start p = unaltered_length (leg_fast true) (plain_rest true) (reverse (maps_in s n)) start p
 
 -- The rest of a path of n bytes of which k bytes at the end are unaltered; none if selections were stripped.
-unfoldable pub rest_fast : Bool → ℕ → ℕ → Rest
-rest_fast stripped n k = cond stripped Nothing (From (n - k))
+unfoldable pub rest_fast : Bool → ℕ → ℕ → Option ℕ
+rest_fast stripped n k = cond stripped None (Some (n - k))
 
 -- The rest of the path p over the first n legs.
-unfoldable pub route_rest_fast : Bool → LentRoute → ℕ → Text → Rest
+unfoldable pub route_rest_fast : Bool → LentRoute → ℕ → Text → Option ℕ
 unfolding rest_fast is_stripped unaltered_fast
 route_rest_fast home s n p = rest_fast (is_stripped home n p) (length p) (unaltered_fast home s n (length p) p)
 
 -- The buffer holds the outcome of some legs, and if that is a path, the run states that n bytes are unaltered.
 pub record HoldsRun (o : Outcome) (n : ℕ) (r : Run) (mem : Text) : Type 0 where
   pub outcome : HoldsOutcome o r.reply mem
-  pub unaltered_is : (m : ℕ) → r.reply ≡ Written m → r.unaltered ≡ n
+  pub unaltered_is : (m : ℕ) → r.reply ≡ Ok m → r.unaltered ≡ n

@@ -3,7 +3,7 @@
 // again for each path.
 #![tactic(auto)]
 
-ghost use Rattle.std.specs.Prelude.{◌≡◌, true, false, cond, ◌≤◌, min, length, take};
+ghost use Rattle.std.specs.Prelude.{◌≡◌, true, false, cond, ◌≤◌, length, take};
 ghost use Rattle.path_parts.specs.Strip.{strip};
 ghost use Rattle.refusal.specs.Outcome.{ReturnsPath};
 ghost use Rattle.path_rest.specs.Carried.{ReturnsCarried};
@@ -14,11 +14,13 @@ ghost use Rattle.route.specs.Calls.{route_call};
 ghost use Rattle.route.specs.Fast.{leg_fast, run_route_fast, entering_path, HoldsPath, needs_maps, after_route_validated};
 ghost use Rattle.route.specs.Unaltered.{rest_length, unaltered_fast, rest_fast, route_rest_fast, HoldsRun};
 
+use refusal::Refusal;
+
 // The reply of some legs, and how many bytes at the end of the path that reached them they carried over
 // unaltered.
 #[derive(Clone, Copy)]
 struct Run {
-    reply: refusal::Reply,
+    reply: Result<usize, Refusal>,
     unaltered: usize,
 }
 
@@ -31,7 +33,7 @@ fn map_leg(
     home: bool,
     path: &[u8],
     made: &mut [u8; 255],
-) -> path_rest::Carried
+) -> Result<(usize, Option<usize>), Refusal>
     ensures { let m = map_at (lent_route store.now places.now legs.now k) k in
         ReturnsCarried (leg_fast home m path.now) (plain_rest home m path.now) result
         made.old made.new }
@@ -64,21 +66,11 @@ fn run_legs(
     let c = map_leg(store, places, legs, k, home, &here[..len], &mut made);
     let unaltered = path_rest::carried_rest(&here[..len], c).len();
     let reply = path_rest::reply_of(c);
-    let refusal::Reply::Written(n) = reply else {
+    let Ok(n) = reply else {
         return Run { reply, unaltered };
     };
     text::write_at(&made[..n], 0, here);
     Run { reply, unaltered }
-}
-
-// The smaller of two numbers.
-fn min(a: usize, b: usize) -> usize
-    ensures { result ≡ min a b }
-{
-    if a <= b {
-        return a;
-    }
-    b
 }
 
 // Maps the path out over the first n legs.
@@ -97,19 +89,17 @@ fn run_out(
 {
     let mut at = len;
     let mut unaltered = len;
-    let mut k = 0;
-    while k < n {
+    for k in 0..n {
         let run = run_legs(store, places, legs, k, false, here, at);
         let reply = run.reply;
-        let refusal::Reply::Written(m) = reply else {
+        let Ok(m) = reply else {
             return run;
         };
         at = m;
-        unaltered = min(unaltered, run.unaltered);
-        k += 1;
+        unaltered = unaltered.min(run.unaltered);
     }
     Run {
-        reply: refusal::Reply::Written(at),
+        reply: Ok(at),
         unaltered,
     }
 }
@@ -130,19 +120,17 @@ fn run_home(
 {
     let mut at = len;
     let mut unaltered = len;
-    let mut k = n;
-    while 0 < k {
-        k -= 1;
+    for k in (0..n).rev() {
         let run = run_legs(store, places, legs, k, true, here, at);
         let reply = run.reply;
-        let refusal::Reply::Written(m) = reply else {
+        let Ok(m) = reply else {
             return run;
         };
         at = m;
-        unaltered = min(unaltered, run.unaltered);
+        unaltered = unaltered.min(run.unaltered);
     }
     Run {
-        reply: refusal::Reply::Written(at),
+        reply: Ok(at),
         unaltered,
     }
 }
@@ -170,16 +158,11 @@ fn run_direction(
 
 // Returns whether the path enters the first leg without its selections: only the first leg of a way out strips
 // them.
+#[tactic(auto, using(crate::proofs::CallBranches::stripping))]
 fn enters_stripped(home: bool, n: usize, path: &[u8]) -> bool
     ensures { result ≡ is_stripped home n path.now }
 {
-    if home {
-        return false;
-    }
-    if n == 0 {
-        return false;
-    }
-    path_own::has_variant_selection(path)
+    !home && n != 0 && path_own::has_variant_selection(path)
 }
 
 // Writes the path as the first leg receives it, without its selections if `stripped` is set, to the scratch
@@ -192,23 +175,20 @@ fn enter_route(stripped: bool, path: &[u8], here: &mut [u8]) -> usize
         text::write_at(path, 0, here);
         return path.len();
     }
-    let fit = path_parts::strip_into(path, here);
-    let text::Fit::Written(k) = fit else {
-        return 0;
-    };
-    k
+    path_parts::strip_into(path, here).unwrap_or(0)
 }
 
 // Returns where the rest of a path of n bytes begins, of which `unaltered` bytes at its end came over all legs;
 // there is none if its selections were stripped.
-fn rest_at_end(stripped: bool, n: usize, unaltered: usize) -> path_rest::Rest
+#[tactic(auto, unfolding(crate::specs::Unaltered::rest_fast))]
+fn rest_at_end(stripped: bool, n: usize, unaltered: usize) -> Option<usize>
     requires { stripped ≡ false → unaltered ≤ n }
     ensures { result ≡ rest_fast stripped n unaltered }
 {
     if stripped {
-        return path_rest::Rest::Nothing;
+        return None;
     }
-    path_rest::Rest::From(n - unaltered)
+    Some(n - unaltered)
 }
 
 // Maps the path over the whole route and writes the result to the lent buffer.
@@ -220,7 +200,7 @@ fn run_path(
     home: bool,
     path: &[u8],
     out: &mut [u8],
-) -> path_rest::Carried
+) -> Result<(usize, Option<usize>), Refusal>
     requires { (length path.now ≤ 255) × (255 ≤ length out.old) }
     ensures { let s = lent_route store.now places.now legs.now n in
         let p = path.now in
@@ -232,8 +212,8 @@ fn run_path(
     let len = enter_route(stripped, path, &mut here);
     let run = run_direction(store, places, legs, n, home, &mut here, len);
     let reply = run.reply;
-    let refusal::Reply::Written(m) = reply else {
-        return path_rest::with_rest(reply, path_rest::Rest::Nothing);
+    let Ok(m) = reply else {
+        return path_rest::with_rest(reply, None);
     };
     text::write_at(&here[..m], 0, out);
     path_rest::with_rest(reply, rest_at_end(stripped, path.len(), run.unaltered))
@@ -242,7 +222,7 @@ fn run_path(
 // Maps a path over a route of maps, with the rest. `list` is the result of the route's own validation, so only
 // the path is validated here.
 fn route_after_carried(
-    list: refusal::Validation,
+    list: Result<(), Refusal>,
     store: &[u8],
     places: &[usize],
     legs: &[usize],
@@ -250,17 +230,14 @@ fn route_after_carried(
     home: bool,
     path: &[u8],
     out: &mut [u8],
-) -> path_rest::Carried
+) -> Result<(usize, Option<usize>), Refusal>
     ensures { let s = lent_route store.now places.now legs.now n in
         ReturnsCarried (after_route_validated list home s path.now (length out.old))
         (route_rest_fast home s n path.now) result out.old out.new }
 {
-    let q = validate::first_refusal(list, path::new(path));
-    if let refusal::Validation::Refused(x) = q {
-        return path_rest::Carried::Refused(x);
-    }
+    validate::first_refusal(list, path::new(path))?;
     if out.len() < 255 {
-        return path_rest::Carried::Refused(refusal::Refusal::NoRoom);
+        return Err(Refusal::NoRoom);
     }
     run_path(store, places, legs, n, home, path, out)
 }
@@ -268,7 +245,7 @@ fn route_after_carried(
 // Maps a path over a route of maps. `list` is the result of the route's own validation, so only the path is
 // validated here.
 pub fn route_after(
-    list: refusal::Validation,
+    list: Result<(), Refusal>,
     store: &[u8],
     places: &[usize],
     legs: &[usize],
@@ -276,7 +253,7 @@ pub fn route_after(
     home: bool,
     path: &[u8],
     out: &mut [u8],
-) -> refusal::Reply
+) -> Result<usize, Refusal>
     ensures { ReturnsPath (after_route_validated list home
         (lent_route store.now places.now legs.now n) path.now
         (length out.old)) result out.old out.new }
@@ -286,13 +263,11 @@ pub fn route_after(
 
 // Returns whether the route passed validation and has a relocate list, so that the legs' maps must be
 // prepared first.
-pub fn needs_maps(list: refusal::Validation, legs: &[usize], n: usize) -> bool
+#[tactic(auto, unfolding(crate::specs::Fast::needs_maps))]
+pub fn needs_maps(list: Result<(), Refusal>, legs: &[usize], n: usize) -> bool
     ensures { result ≡ needs_maps list legs.now n }
 {
-    if let refusal::Validation::Refused(x) = list {
-        return false;
-    }
-    route_maps::has_relocates(legs, n)
+    list.is_ok() && route_maps::has_relocates(legs, n)
 }
 
 // Maps a path over a route, home or out, with the rest.
@@ -304,7 +279,7 @@ fn route_call(
     home: bool,
     path: &[u8],
     out: &mut [u8],
-) -> path_rest::Carried
+) -> Result<(usize, Option<usize>), Refusal>
     ensures { let s = lent_route store.now places.now legs.now n in
         ReturnsCarried (route_call home s path.now (length out.old))
         (route_rest home (legs_in s n) path.now) result out.old out.new }
@@ -327,7 +302,7 @@ pub fn route_out(
     n: usize,
     path: &[u8],
     out: &mut [u8],
-) -> refusal::Reply
+) -> Result<usize, Refusal>
     ensures { ReturnsPath (route_call false
         (lent_route store.now places.now legs.now n) path.now
         (length out.old)) result out.old out.new }
@@ -343,7 +318,7 @@ pub fn route_home(
     n: usize,
     path: &[u8],
     out: &mut [u8],
-) -> refusal::Reply
+) -> Result<usize, Refusal>
     ensures { ReturnsPath (route_call true
         (lent_route store.now places.now legs.now n) path.now
         (length out.old)) result out.old out.new }
@@ -359,7 +334,7 @@ pub fn route_out_carried(
     n: usize,
     path: &[u8],
     out: &mut [u8],
-) -> path_rest::Carried
+) -> Result<(usize, Option<usize>), Refusal>
     ensures { let s = lent_route store.now places.now legs.now n in
         ReturnsCarried (route_call false s path.now (length out.old))
         (route_rest false (legs_in s n) path.now) result out.old out.new }
@@ -375,7 +350,7 @@ pub fn route_home_carried(
     n: usize,
     path: &[u8],
     out: &mut [u8],
-) -> path_rest::Carried
+) -> Result<(usize, Option<usize>), Refusal>
     ensures { let s = lent_route store.now places.now legs.now n in
         ReturnsCarried (route_call true s path.now (length out.old))
         (route_rest true (legs_in s n) path.now) result out.old out.new }

@@ -1,16 +1,15 @@
 -- Meaning: A route as the caller lends it: one byte store and one slice of places for all legs, and three numbers for each leg: its kind (0 a map, 1
 -- a map with the root-identity mark, any other number a relocate list), the index of its first pair in the places, and its number of pairs.
 -- Only this file reads that layout; all other definitions are on `List Leg`.
-use Rattle.std.specs.Prelude.{ℕ, zero, suc, ◌+◌, ◌*◌, ◌/◌, Bool, true, false, cond, ◌&&◌, List, [], ◌∷◌, ◌++◌, eqb, leb, length, get_or, drop}
+use Rattle.std.specs.Prelude.{ℕ, zero, suc, ◌+◌, ◌*◌, ◌/◌, Bool, true, false, cond, ◌&&◌, List, [], ◌∷◌, ◌++◌, eqb, leb, length, get_or, drop, Result, Ok, Err, ⊤}
 use Rattle.text.specs.Text.{Text}
 use Rattle.pair_list.specs.Pair.{Pair}
 use Rattle.refusal.specs.declared.Refusal.TheVariants.{TooMany}
-use Rattle.refusal.specs.declared.Validation.{Validation}
-use Rattle.refusal.specs.declared.Validation.TheVariants.{Passed, Refused}
 use Rattle.refusal.specs.Refusal.{refused_or}
 use Rattle.map_spec.specs.Map.{Map}
 use Rattle.validate.specs.Validate.{LentList, lent_list, pairs_of, validate_call}
 use Rattle.route_spec.specs.Leg.{Leg, by_map, by_relocates}
+use Rattle.refusal.specs.declared.Refusal.{Refusal}
 
 -- A lent route: the store, the places, the three numbers of each leg, and the number of legs.
 pub record LentRoute : Type 0 where
@@ -83,6 +82,6 @@ unfoldable pub leg_count_within_limit : LentRoute → Bool
 leg_count_within_limit r = leb r.count 16 && leb r.count (length r.legs / 3)
 
 -- Questions 1 to 4 for a route and further texts.
-unfoldable pub validate_route : LentRoute → List Text → Validation
+unfoldable pub validate_route : LentRoute → List Text → Result ⊤ Refusal
 unfolding validate_call lists_in present_legs leg_count_within_limit
-validate_route r texts = refused_or (validate_call (lists_in r (present_legs r)) texts []) Refused (cond (leg_count_within_limit r) Passed (Refused TooMany))
+validate_route r texts = refused_or (validate_call (lists_in r (present_legs r)) texts []) Err (cond (leg_count_within_limit r) (Ok tt) (Err TooMany))

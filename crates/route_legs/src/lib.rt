@@ -2,14 +2,16 @@
 // route (questions 1 to 4). Every public function is defined for all byte slices and all numbers.
 #![tactic(auto)]
 
-ghost use Rattle.std.specs.Prelude.{◌≡◌, cond, [], ◌∷◌, ◌+◌, ◌*◌, ◌<◌, get_or, drop};
+ghost use Rattle.std.specs.Prelude.{◌≡◌, cond, [], ◌∷◌, ◌+◌, ◌*◌, ◌<◌, get_or, drop, Ok, Err};
 ghost use Rattle.text.specs.Text.{written_if_fits};
-ghost use Rattle.refusal.specs.declared.Validation.TheVariants.{Passed, Refused};
 ghost use Rattle.refusal.specs.declared.Refusal.TheVariants.{TooMany};
 ghost use Rattle.validate.specs.Validate.{validate_call};
 ghost use Rattle.route_legs.specs.LentRoute.{lent_route, kind_at, first_at, size_at, list_at, lists_in, present_legs, leg_count_within_limit, validate_route};
 
+use refusal::Refusal;
+
 // Entry j of the three numbers of leg k; 0 outside the slice.
+#[tactic(auto, using(crate::proofs::ValidateBranches::reads))]
 fn entry_at(legs: &[usize], k: usize, j: usize) -> usize
     requires { j < 3 }
     ensures { result ≡ get_or legs.now (3 * k + j) 0 }
@@ -17,14 +19,11 @@ fn entry_at(legs: &[usize], k: usize, j: usize) -> usize
     if legs.len() / 3 < k {
         return 0;
     }
-    let i = 3 * k + j;
-    if legs.len() <= i {
-        return 0;
-    }
-    legs[i]
+    legs.get(3 * k + j).copied().unwrap_or(0)
 }
 
-// The kind of leg k.
+// The kind of leg k, a number as the C interface lends it: 0, 1 or another (specs/LentRoute.antt).
+#[tactic(auto, using(crate::proofs::ValidateBranches::reads))]
 pub fn kind_at(legs: &[usize], k: usize) -> usize
     ensures { result ≡ kind_at legs.now k }
 {
@@ -65,32 +64,29 @@ pub fn leg_places<'a>(places: &'a [usize], legs: &[usize], k: usize) -> &'a [usi
 }
 
 // The number of the counted legs whose numbers lie within the slice.
+#[tactic(auto, unfolding(crate::specs::LentRoute::present_legs))]
 fn present_legs(legs: &[usize], count: usize) -> usize
     ensures { result ≡ present_legs (lent_route [] [] legs.now count) }
 {
-    let present = legs.len() / 3;
-    if count <= present {
-        return count;
-    }
-    present
+    count.min(legs.len() / 3)
 }
 
 // Validates the number of legs (question 4).
-fn validate_count(legs: &[usize], count: usize) -> refusal::Validation
-    ensures { result ≡ cond (leg_count_within_limit (lent_route [] [] legs.now count)) Passed
-        (Refused TooMany) }
+fn validate_count(legs: &[usize], count: usize) -> Result<(), Refusal>
+    ensures { result ≡ cond (leg_count_within_limit (lent_route [] [] legs.now count)) (Ok tt)
+        (Err TooMany) }
 {
     if 16 < count {
-        return refusal::Validation::Refused(refusal::Refusal::TooMany);
+        return Err(Refusal::TooMany);
     }
     if legs.len() / 3 < count {
-        return refusal::Validation::Refused(refusal::Refusal::TooMany);
+        return Err(Refusal::TooMany);
     }
-    refusal::Validation::Passed
+    Ok(())
 }
 
 // Validates the list of leg k (questions 1 to 4).
-fn validate_leg(store: &[u8], places: &[usize], legs: &[usize], k: usize) -> refusal::Validation
+fn validate_leg(store: &[u8], places: &[usize], legs: &[usize], k: usize) -> Result<(), Refusal>
     ensures { result ≡ validate_call (list_at
         (lent_route store.now places.now legs.now k) k ∷ []) [] [] }
 {
@@ -103,15 +99,13 @@ fn validate_leg_lists(
     places: &[usize],
     legs: &[usize],
     n: usize,
-) -> refusal::Validation
+) -> Result<(), Refusal>
     ensures { result ≡ validate_call (lists_in
         (lent_route store.now places.now legs.now n) n) [] [] }
 {
-    let mut q = refusal::Validation::Passed;
-    let mut k = 0;
-    while k < n {
+    let mut q = Ok(());
+    for k in 0..n {
         q = validate::first_refusal(q, validate_leg(store, places, legs, k));
-        k += 1;
     }
     q
 }
@@ -122,7 +116,7 @@ pub fn validate_legs(
     places: &[usize],
     legs: &[usize],
     count: usize,
-) -> refusal::Validation
+) -> Result<(), Refusal>
     ensures { result ≡ validate_route (lent_route store.now places.now legs.now count)
         [] }
 {

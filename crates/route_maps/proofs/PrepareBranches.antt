@@ -76,14 +76,6 @@ module _ (store : Text) (places : List ℕ) (kind n : ℕ) (block : List ℕ) wh
     unfolding leg_selection leg_block leg_source_list can_select count_within_limit
     leg_copied k block' f = rw (lt-leb 2 kind h, known_true e k) (sym (all_length n), f)
 
--- `map_kind`
-module _ (kind : ℕ) where
-  pub kind_zero : kind ≡ 0 → ◌≡◌ {A = ℕ} 0 (map_kind kind)
-  kind_zero h = rw (eq-eqb kind 0 h) refl
-
-  pub kind_other : kind ≢ 0 → ◌≡◌ {A = ℕ} 1 (map_kind kind)
-  kind_other h = rw (ne_eqb kind 0 h) refl
-
 -- `prepare_leg`: the block of leg k, as a slice of the buffer.
 pub part_room : (k : ℕ) (made : List ℕ) → k < 16 → length made ≡ 4096 → length (take (256 * k + 256 - 256 * k) (drop (256 * k) made)) ≡ 256
 part_room k made h g = let z : 256 * k + 256 - 256 * k ≡ 256 = omega arith in rw z (block_room k made h g)

@@ -2,37 +2,19 @@
 use mathlib.Core.Path.{◌≡◌, refl, sym, ◌∙◌}
 use mathlib.Core.Bool.{Bool, true, false, false≢true}
 use mathlib.Core.List.{List}
-use Prim.Native.Nat.{ℕ, zero, suc, ◌+◌, ◌≤◌, ◌<◌}
+use Prim.Native.Nat.{ℕ, zero, suc, ◌<◌}
 use native.Mathlib.Omega.{arith}
 use lib.Dec.{eqb, leb}
-use borrow.Author.Tests.{le-leb, lt-leb, leb-false}
+use borrow.Author.Tests.{leb-false}
 use Rattle.pair_list.specs.Pair.{Pair}
 use Rattle.validate.specs.Validate.{pairs_of}
-use Rattle.relocates.proofs.StatusBranches.{some_hit, some_none, some_on}
+use Rattle.relocates.proofs.StatusBranches.{some_hit}
 use Rattle.route_spec.specs.Leg.{leg_map}
 use Rattle.route_legs.specs.LentRoute.{LentRoute, kind_at, list_at, leg_of, leg_at, map_at}
 use Rattle.route_maps.specs.Prepared.{has_relocates, Prepared}
 
 abbrev relocating : List ℕ → ℕ → Bool
 relocating legs k = leb 2 (kind_at legs k)
-
--- `has_relocates`
-module _ (legs : List ℕ) where
-  pub relocates_none : has_relocates legs 0 ≡ false
-  unfolding has_relocates
-  relocates_none = some_none (relocating legs)
-
-  module _ (k v : ℕ) (e : v ≡ kind_at legs k) where
-    pub relocates_found : (n : ℕ) → k < n → 2 ≤ v → true ≡ has_relocates legs n
-    unfolding has_relocates
-    relocates_found n h l = sym (some_hit (relocating legs) n k h (rw (← e) (le-leb 2 v l)))
-
-    pub relocates_on : has_relocates legs k ≡ false → v < 2 → has_relocates legs (k + 1) ≡ false
-    unfolding has_relocates
-    relocates_on h l = some_on (relocating legs) k h (rw (← e) (lt-leb 2 v l))
-
-  pub relocates_end : (n k : ℕ) → n ≤ k → k ≤ n → has_relocates legs k ≡ false → false ≡ has_relocates legs n
-  relocates_end n k h l e = let z : k ≡ n = omega arith in sym (rw z at e)
 
 -- The map of a leg that is a map is that map.
 pub plain_leg : (kind : ℕ) (l : List Pair) → kind < 2 → record { pairs = l; mark = eqb kind 1 } ≡ leg_map (leg_of kind l)

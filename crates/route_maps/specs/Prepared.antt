@@ -1,7 +1,6 @@
 -- Method: A route in which every leg is a map, as the code processes it, and when such a route is equivalent to a route that also has relocate
 -- lists.
-use Rattle.std.specs.Prelude.{◌≡◌, ℕ, ◌<◌, Bool, List, [], leb, length}
-use Rattle.refusal.specs.declared.Validation.TheVariants.{Passed}
+use Rattle.std.specs.Prelude.{◌≡◌, ℕ, ◌<◌, Bool, List, [], leb, length, Ok}
 use Rattle.relocates.specs.Status.{any_below}
 use Rattle.route_spec.specs.Leg.{leg_map}
 use Rattle.route_legs.specs.LentRoute.{LentRoute, kind_at, leg_at, map_at, validate_route}
@@ -20,4 +19,4 @@ Prepared r s n = (k : ℕ) → k < n → map_at s k ≡ leg_map (leg_at r k)
 -- numbers for the leg (proofs/ReadLaws.antt proves that `prepare_legs` establishes this).
 unfoldable pub PreparedIfPassed : LentRoute → LentRoute → ℕ → Type 0
 unfolding Prepared validate_route
-PreparedIfPassed r s n = validate_route r [] ≡ Passed → length s.places ≡ 4096 → length s.legs ≡ 48 → Prepared r s n
+PreparedIfPassed r s n = validate_route r [] ≡ Ok tt → length s.places ≡ 4096 → length s.legs ≡ 48 → Prepared r s n

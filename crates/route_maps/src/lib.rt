@@ -15,14 +15,7 @@ ghost use Rattle.route_maps.specs.Prepare.{active_list, leg_selection, leg_block
 pub fn has_relocates(legs: &[usize], n: usize) -> bool
     ensures { result ≡ has_relocates legs.now n }
 {
-    let mut k = 0;
-    while k < n {
-        if 2 <= route_legs::kind_at(legs, k) {
-            return true;
-        }
-        k += 1;
-    }
-    false
+    (0..n).any(|k| 2 <= route_legs::kind_at(legs, k))
 }
 
 // Copies the places of the first n pairs.
@@ -31,10 +24,8 @@ fn copy_pairs(places: &[usize], n: usize, block: &mut [usize])
     ensures { block.new ≡ written_entries places.now (indices_where (λ (i : ℕ). true) n)
         block.old }
 {
-    let mut i = 0;
-    while i < n {
+    for i in 0..n {
         pair_list_write::copy_entry(places, i, i, block);
-        i += 1;
     }
 }
 
@@ -80,10 +71,7 @@ fn prepare_pairs(
 fn map_kind(kind: usize) -> usize
     ensures { result ≡ map_kind kind }
 {
-    if kind == 0 {
-        return 0;
-    }
-    1
+    kind.min(1)
 }
 
 // Writes the map of leg k to its block and its three numbers to the table.
@@ -145,9 +133,7 @@ pub fn prepare_legs(
     if table.len() != 48 {
         return;
     }
-    let mut k = 0;
-    while k < n {
+    for k in 0..n {
         prepare_leg(store, places, legs, k, made, table);
-        k += 1;
     }
 }

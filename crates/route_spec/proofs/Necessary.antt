@@ -1,12 +1,12 @@
 -- A counterexample: the second half of the round-trip requirement (demand 3) needs its hypothesis; without it, it fails for a route of one
 -- leg.
+use Rattle.std.specs.Prelude.{Some}
 use mathlib.Core.Path.{◌≡◌, refl}
 use mathlib.Core.Logic.{◌↔◌}
 use mathlib.Core.Bool.{true}
 use mathlib.Core.List.{List, [], ◌∷◌}
-use mathlib.Core.Option.{some}
 use Prim.Native.Nat.{ℕ}
-use lib.ListN.{get_elem?}
+use Rattle.std.specs.List.{slice_get}
 use Rattle.text.specs.Text.{Text}
 use Rattle.pair_list.specs.Pair.{all_ends}
 use Rattle.refusal.specs.Outcome.{path}
@@ -20,14 +20,14 @@ use Rattle.route_spec.specs.Route.{route_ends, trace}
 abbrev Unguarded : Type 0
 Unguarded =
     (legs : List Leg) (p : Text) → route_ends legs ≡ true → SelectionFreePath p
-    → (k : ℕ) (x : Leg) (r : Text) → get_elem? legs k ≡ some x → get_elem? (trace outward legs p) k ≡ some r
+    → (k : ℕ) (x : Leg) (r : Text) → slice_get legs k ≡ Some x → slice_get (trace outward legs p) k ≡ Some r
     → (q : Text) → (outward x r ≡ path q) ↔ PlainRoundTrip (leg_map x) r q
 
 one_leg : (m : Map) → all_ends m.pairs ≡ true → route_ends (by_map m ∷ []) ≡ true
 unfolding route_ends leg_ends
 one_leg m e = rw e
 
-reaches : (m : Map) (p : Text) → get_elem? (trace outward (by_map m ∷ []) p) 0 ≡ some p
+reaches : (m : Map) (p : Text) → slice_get (trace outward (by_map m ∷ []) p) 0 ≡ Some p
 unfolding trace
 reaches m p = refl
 

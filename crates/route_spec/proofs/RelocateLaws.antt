@@ -1,9 +1,9 @@
 -- Lemmas about the map of a relocate list: its ends are ends of the list, and none of its sources is empty. Lemmas about closed legs.
+use Rattle.std.specs.Prelude.{None}
 use mathlib.Core.Path.{◌≡◌, refl, sym, ◌∙◌}
 use mathlib.Core.Bool.{Bool, true, false, not, cond, ◌&&◌, ◌||◌, false≢true}
 use mathlib.Core.List.{List, [], ◌∷◌, ◌++◌}
 use Prim.Native.Nat.{ℕ, zero, suc, ◌≤◌}
-use mathlib.Core.Option.{none}
 use lib.Dec.{eqb}
 use native.Mathlib.Omega.{arith}
 use lib.ListN.{length, length-append}
@@ -95,7 +95,7 @@ unfolding matches has_prefix strip_prefix
 no_match [] = refl
 no_match (a ∷ k) = refl
 
-no_key : (key : ℕ → Text) (n : ℕ) → longest_match [] key n ≡ none
+no_key : (key : ℕ → Text) (n : ℕ) → longest_match [] key n ≡ None
 unfolding longest_match
 no_key key n = sym (best_rest (λ (k : ℕ). matches [] (key k)) (λ (k : ℕ). element_count (key k)) 0 n (omega arith) (λ k h. no_match (key k)))
 

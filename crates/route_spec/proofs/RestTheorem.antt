@@ -1,6 +1,7 @@
 -- The rest of an accepted route is the end of the path given and of the path made (`RouteRestUnaltered`). The idea: the rest of a leg is the end of
 -- the path that reached the leg and of the path that it yields, so as long as no more bytes are kept than that rest has, the last bytes of both
 -- paths are the same.
+use Rattle.std.specs.Prelude.{Option, Some, None}
 use mathlib.Core.Path.{◌≡◌, refl, sym, ap, ◌∙◌}
 use mathlib.Core.Bool.{Bool, true, false, cond}
 use mathlib.Core.List.{List, [], ◌∷◌, append-nil, reverse, reverse-cons}
@@ -12,8 +13,6 @@ use lib.Seq.{drop-append-add}
 use Rattle.text.specs.Text.{Text}
 use Rattle.path_grammar.specs.Legal.{legal, at_most255}
 use Rattle.refusal.specs.Outcome.{Outcome, path, refused}
-use Rattle.path_rest.specs.declared.Rest.{Rest}
-use Rattle.path_rest.specs.declared.Rest.TheVariants.{From, Nothing}
 use Rattle.path_rest.specs.Rest.{rest_text, EndsWith}
 use Rattle.map_spec.specs.Map.{map_target_to_source, translate_to_target}
 use Rattle.map_spec.specs.Leg.{SelectionFreePath, translate_checked, map_back_checked}
@@ -44,7 +43,7 @@ end_fits : (t r : Text) → EndsWith t r → length r ≤ length t
 end_fits t r (s, e) = rw (e, length-append s r) (omega arith)
 
 -- Legs do not raise the number of unaltered bytes.
-pub unaltered_le : {A : Type 0} (go : A → Text → Outcome) (rest : A → Text → Rest) (xs : List A) (n : ℕ) (p : Text) → unaltered_length go rest xs n p ≤ n
+pub unaltered_le : {A : Type 0} (go : A → Text → Outcome) (rest : A → Text → Option ℕ) (xs : List A) (n : ℕ) (p : Text) → unaltered_length go rest xs n p ≤ n
 unfolding unaltered_length
 unaltered_le go rest [] n p = omega arith
 unaltered_le {A} go rest (x ∷ xs) n p = by (go x p) (unaltered_le go rest xs fewer)
@@ -62,7 +61,7 @@ record LegKeeps (C : Text → Type 0) (p q r : Text) : Type 0 where
   ends_made_lem : EndsWith q r
   next : C q
 
-module _ (go : Leg → Text → Outcome) (rest : Leg → Text → Rest) where
+module _ (go : Leg → Text → Outcome) (rest : Leg → Text → Option ℕ) where
   -- The length of the rest of the path p that reaches a leg.
   abbrev rest_length : Leg → Text → ℕ
   rest_length x p = length (rest_text p (rest x p))
@@ -137,7 +136,7 @@ unfolding route_rest rest_text
 route_rest_unaltered home legs p q ends l s e = go (is_stripped home (length legs) p) refl
   where
     rest : Bool → Text
-    rest b = rest_text p (cond b Nothing (From (length p - unaltered_over home legs p)))
+    rest b = rest_text p (cond b None (Some (length p - unaltered_over home legs p)))
 
     go : (b : Bool) → is_stripped home (length legs) p ≡ b → EndsWith p (rest b) × EndsWith q (rest b)
     go true k = ((p, sym (append-nil p)), (q, sym (append-nil q)))

@@ -1,12 +1,12 @@
 -- The proof of the round_trip theorem (demand 3), over a whole list of legs.
+use Rattle.std.specs.Prelude.{Some, None}
 use mathlib.Core.Path.{◌≡◌, refl, sym, ◌∙◌}
 use mathlib.Core.Logic.{◌↔◌}
 use mathlib.Core.Bool.{true, false}
 use mathlib.Core.List.{List, [], ◌∷◌, ◌++◌, reverse, reverse-cons}
-use mathlib.Core.Option.{none, some}
 use Prim.Native.Nat.{ℕ, zero, suc}
 use native.Mathlib.Omega.{arith}
-use lib.ListN.{get_elem?}
+use Rattle.std.specs.List.{slice_get}
 use Rattle.text.specs.Text.{Text}
 use Rattle.text.proofs.BoolLaws.{and_l, and_r}
 use Rattle.text.proofs.TextLaws.{no_text}
@@ -67,11 +67,11 @@ module _ (go : Leg → Text → Outcome) (x : Leg) (xs : List Leg) (p : Text) wh
   unfolding trace
   trace_refused n h = rw h
 
-  trace_first : get_elem? (trace go (x ∷ xs) p) 0 ≡ some p
+  trace_first : slice_get (trace go (x ∷ xs) p) 0 ≡ Some p
   unfolding trace
   trace_first = refl
 
-no_leg : {x : Leg} → none ≡ some x → ⊥
+no_leg : {x : Leg} → None ≡ Some x → ⊥
 no_leg {x} e = let z : ◌≡◌ {A = ℕ} 0 1 = cc in omega arith
 
 -- One more leg at the end of a route.
@@ -126,8 +126,8 @@ run_next (x ∷ xs) p q ends c e = by (outward x p) refl (λ y. run_next xs y q 
     by (refused n) k ih = absurd (no_path_lem (sym (fold_refused outward x xs p n k) ∙ e))
 
 -- The path that reaches a leg has these properties, whether or not a later leg refuses.
-reached : (xs : List Leg) (p : Text) → route_ends xs ≡ true → SelectionFreePath p → (k : ℕ) (x : Leg) (r : Text) → get_elem? xs k ≡ some x
-    → get_elem? (trace outward xs p) k ≡ some r → (leg_ends x ≡ true) × SelectionFreePath r
+reached : (xs : List Leg) (p : Text) → route_ends xs ≡ true → SelectionFreePath p → (k : ℕ) (x : Leg) (r : Text) → slice_get xs k ≡ Some x
+    → slice_get (trace outward xs p) k ≡ Some r → (leg_ends x ≡ true) × SelectionFreePath r
 reached [] p ends c k x r h g = absurd (no_leg h)
 reached (y ∷ ys) p ends c zero x r h g =
     let s : y ≡ x = cc in
@@ -136,7 +136,7 @@ reached (y ∷ ys) p ends c zero x r h g =
 reached (y ∷ ys) p ends c (suc k) x r h g = by (outward y p) refl (λ q d. reached ys q (rest_ends y ys ends) d k x r h)
   where
     by : (o : Outcome) → outward y p ≡ o
-        → ((q : Text) → SelectionFreePath q → get_elem? (trace outward ys q) k ≡ some r → (leg_ends x ≡ true) × SelectionFreePath r)
+        → ((q : Text) → SelectionFreePath q → slice_get (trace outward ys q) k ≡ Some r → (leg_ends x ≡ true) × SelectionFreePath r)
         → (leg_ends x ≡ true) × SelectionFreePath r
     by (path q) e ih = ih q (step_next y (first_ends y ys ends) p q c e) (rw (trace_path outward y ys p q e) at g)
     by (refused n) e ih = absurd (no_text (rw (trace_refused outward y ys p n e) at g))

@@ -1,8 +1,7 @@
 -- Meaning: A route of legs, out and home, and the round-trip theorem about it (demand 3): "one claim about the whole list of legs, not one for each
 -- leg".
-use Rattle.std.specs.Prelude.{◌≡◌, ◌↔◌, Bool, true, false, ◌&&◌, List, [], ◌∷◌, reverse, ℕ}
-use Rattle.std.proofs.Math.Option.{some}
-use Rattle.std.proofs.Math.ListN.{get_elem?}
+use Rattle.std.specs.Prelude.{◌≡◌, ◌↔◌, Bool, true, false, ◌&&◌, List, [], ◌∷◌, reverse, ℕ, Some}
+use Rattle.std.specs.List.{slice_get}
 use Rattle.text.specs.Text.{Text}
 use Rattle.pair_list.specs.Pair.{Pair, no_empty_source}
 use Rattle.refusal.specs.Outcome.{Outcome, path, refused}
@@ -54,7 +53,7 @@ HomeAgain goes comes legs p =
 -- path.
 abbrev pub GivesExactly : (Leg → Text → Outcome) → List Leg → Text → Type 0
 GivesExactly goes legs p =
-    (k : ℕ) (x : Leg) (r : Text) → get_elem? legs k ≡ some x → get_elem? (trace goes legs p) k ≡ some r
+    (k : ℕ) (x : Leg) (r : Text) → slice_get legs k ≡ Some x → slice_get (trace goes legs p) k ≡ Some r
     → no_empty_source (leg_map x).pairs ≡ true → (q : Text) → (goes x r ≡ path q) ↔ PlainRoundTrip (leg_map x) r q
 
 -- The round-trip property of a tool, for a list of legs and a path.
@@ -75,5 +74,5 @@ RoundTrip = AlwaysReturns outward homeward
 abbrev pub RelocatesExact : Type 0
 RelocatesExact =
     (legs : List Leg) (p : Text) → route_ends legs ≡ true → SelectionFreePath p
-    → (k : ℕ) (l : List Pair) (r : Text) → get_elem? legs k ≡ some (by_relocates l) → get_elem? (trace outward legs p) k ≡ some r
+    → (k : ℕ) (l : List Pair) (r : Text) → slice_get legs k ≡ Some (by_relocates l) → slice_get (trace outward legs p) k ≡ Some r
     → (q : Text) → (outward (by_relocates l) r ≡ path q) ↔ PlainRoundTrip (relocate_map l) r q

@@ -39,16 +39,10 @@ pub fn read<R: Read>(from: &mut R, buf: &mut [u8]) -> io::Result<usize>
     ensures bound { ReadAtMost (length buf.old) result }
     ensures bytes { ReadConsumes (R.remaining from.old) (R.remaining from.new) result buf.new }
 {
-    let mut tries = u64::MAX;
-    while tries > 0 {
-        tries -= 1;
+    for _attempt in 0..u64::MAX {
         match from.read(buf) {
-            Ok(n) => return Ok(n),
-            Err(e) => {
-                if !is_retry(&e) {
-                    return Err(e);
-                }
-            }
+            Err(e) if is_retry(&e) => {}
+            reply => return reply,
         }
     }
     Err(io::Error::from(ErrorKind::TimedOut))
@@ -62,6 +56,7 @@ pub fn read_full<R: Read>(from: &mut R, buf: &mut [u8]) -> io::Result<usize>
     ensures failed { OnErr result (FewerConsumed (R.remaining from.old) (R.remaining from.new) (length buf.old)) }
 {
     let mut done = 0;
+    // A `while`: each turn fills as many bytes as the reader gives.
     while done < buf.len() {
         let n = read(from, &mut buf[done..])?;
         if n == 0 {
@@ -79,9 +74,10 @@ pub fn write_all<W: Write>(to: &mut W, buf: &[u8]) -> Writing
     ensures bytes { Appends (W.contents to.old) (W.contents to.new) (take result.count buf.now) }
 {
     let mut done = 0;
-    let mut tries = u64::MAX;
-    while tries > 0 && done < buf.len() {
-        tries -= 1;
+    for _write in 0..u64::MAX {
+        if done == buf.len() {
+            break;
+        }
         let rest = &buf[done..];
         match to.write(rest) {
             Ok(0) => return stopped(done, io::Error::from(ErrorKind::WriteZero)),

@@ -1,14 +1,15 @@
 -- Chaining and shifting leave the target part: every replacement makes the same of the path and of its own part.
+use Rattle.std.specs.Prelude.{Option, Some, None}
+use Rattle.std.specs.Option.{unwrap_or, is_some}
 use mathlib.Core.Path.{◌≡◌, refl, sym, ap, ◌∙◌}
 use mathlib.Core.Bool.{Bool, true, false, cond, true≢false}
 use mathlib.Core.List.{List, ◌∷◌, ◌++◌}
 use mathlib.Core.Logic.{◌⊎◌, inl, inr}
-use mathlib.Core.Option.{Option, none, some, get_or}
 use Prim.Native.Nat.{ℕ, zero, suc, ◌+◌}
 use native.Mathlib.Omega.{arith}
 use lib.ListN.{length, take, length-append}
 use lib.Seq.{take-append_seam}
-use Rattle.text.specs.Text.{Text, is_nil, is_some, equal, lacks_byte}
+use Rattle.text.specs.Text.{Text, is_nil, equal, lacks_byte}
 use Rattle.text.proofs.BoolLaws.{and_no}
 use Rattle.text.proofs.TextLaws.{no_text, equal_is, equal_self, lacks_append}
 use Rattle.path_grammar.specs.Own.{own_part, target_part}
@@ -55,8 +56,8 @@ differ b s o h k = go (equal s o) refl
 module _ (l : List Pair) (t : Text) (f g : Pair → Option Text) (same : (i : ℕ) → f (pair_at l i) ≡ appended t (g (pair_at l i))) where
   some_both : (o : Option Text) → is_some (appended t o) ≡ is_some o
   unfolding appended
-  some_both none = refl
-  some_both (some q) = refl
+  some_both None = refl
+  some_both (Some q) = refl
 
   longest_both : longest_replacement f l ≡ appended t (longest_replacement g l)
   unfolding longest_replacement longest_source appended
@@ -67,8 +68,8 @@ module _ (l : List Pair) (t : Text) (f g : Pair → Option Text) (same : (i : �
       ∙ go (longest_source g l (length l))
     where
       go : (o : Option ℕ) → replacement_at f l o ≡ appended t (replacement_at g l o)
-      go none = refl
-      go (some i) = same i
+      go None = refl
+      go (Some i) = same i
 
 -- A text o with a dot, a bracket after it, and a pair of ends.
 module _ (o z : Text) (dotted : lacks_byte 46 o ≡ false) (x : Pair) (es : is_end x.source ≡ true) where
@@ -76,13 +77,13 @@ module _ (o z : Text) (dotted : lacks_byte 46 o ≡ false) (x : Pair) (es : is_e
   unfolding if_altered appended
   altered_before = rw (replace_before o z x.source dotted es x.target) (go (replace_prefix o x.source x.target))
     where
-      either : (b : Bool) (q : Text) → cond b none (some (q ++ 91 ∷ z)) ≡ appended (91 ∷ z) (cond b none (some q))
+      either : (b : Bool) (q : Text) → cond b None (Some (q ++ 91 ∷ z)) ≡ appended (91 ∷ z) (cond b None (Some q))
       either true q = refl
       either false q = refl
 
       go : (r : Option Text) → if_altered (o ++ 91 ∷ z) (appended (91 ∷ z) r) ≡ appended (91 ∷ z) (if_altered o r)
-      go none = refl
-      go (some q) = rw (equal_tail q o (91 ∷ z)) (either (equal q o) q)
+      go None = refl
+      go (Some q) = rw (equal_tail q o (91 ∷ z)) (either (equal q o) q)
 
   -- What the pair makes of both, if both or neither skip it.
   replacement_before : (alters : Bool) (skip skip' : Option Text) → is_skipped skip x.source ≡ is_skipped skip' x.source
@@ -91,15 +92,15 @@ module _ (o z : Text) (dotted : lacks_byte 46 o ≡ false) (x : Pair) (es : is_e
   replacement_before alters skip skip' k = rw k (go (is_nil x.target) (is_skipped skip' x.source) alters)
     where
       go : (b c d : Bool)
-          → cond b none (cond c none (cond d (if_altered (o ++ 91 ∷ z) (replace_prefix (o ++ 91 ∷ z) x.source x.target)) (replace_prefix (o ++ 91 ∷ z) x.source x.target)))
-          ≡ appended (91 ∷ z) (cond b none (cond c none (cond d (if_altered o (replace_prefix o x.source x.target)) (replace_prefix o x.source x.target))))
+          → cond b None (cond c None (cond d (if_altered (o ++ 91 ∷ z) (replace_prefix (o ++ 91 ∷ z) x.source x.target)) (replace_prefix (o ++ 91 ∷ z) x.source x.target)))
+          ≡ appended (91 ∷ z) (cond b None (cond c None (cond d (if_altered o (replace_prefix o x.source x.target)) (replace_prefix o x.source x.target))))
       go true c d = refl
       go false true d = refl
       go false false true = altered_before
       go false false false = replace_before o z x.source dotted es x.target
 
   -- Neither the path nor its own part is the source of a pair, so shifting skips none.
-  never_skipped : is_skipped (some (o ++ 91 ∷ z)) x.source ≡ is_skipped (some o) x.source
+  never_skipped : is_skipped (Some (o ++ 91 ∷ z)) x.source ≡ is_skipped (Some o) x.source
   unfolding is_skipped lacks_byte
   never_skipped =
       differ 91 x.source (o ++ 91 ∷ z) (end_unbracketed x.source es) (lacks_append 91 o (91 ∷ z) ∙ and_no (lacks_byte 91 o))
@@ -117,24 +118,24 @@ module _ (l : List Pair) (ends : all_ends l ≡ true) where
 
   -- What shifting finds, before it falls back to the path itself.
   found : Text → Option Text
-  found x = longest_replacement (replacement false (some x) x) l
+  found x = longest_replacement (replacement false (Some x) x) l
 
   found_before : (o z : Text) → lacks_byte 46 o ≡ false → found (o ++ 91 ∷ z) ≡ appended (91 ∷ z) (found o)
   unfolding found
   found_before o z d =
-      longest_both l (91 ∷ z) (replacement false (some (o ++ 91 ∷ z)) (o ++ 91 ∷ z)) (replacement false (some o) o)
-      (λ i. replacement_before o z d (pair_at l i) (ends_source l ends i) false (some (o ++ 91 ∷ z)) (some o) (never_skipped o z d (pair_at l i) (ends_source l ends i)))
+      longest_both l (91 ∷ z) (replacement false (Some (o ++ 91 ∷ z)) (o ++ 91 ∷ z)) (replacement false (Some o) o)
+      (λ i. replacement_before o z d (pair_at l i) (ends_source l ends i) false (Some (o ++ 91 ∷ z)) (Some o) (never_skipped o z d (pair_at l i) (ends_source l ends i)))
 
   shifted : Text → Option Text
-  shifted p = some (shift_through_nearest_ancestor l p)
+  shifted p = Some (shift_through_nearest_ancestor l p)
 
   shifted_before : (o z : Text) → lacks_byte 46 o ≡ false → shifted (o ++ 91 ∷ z) ≡ appended (91 ∷ z) (shifted o)
   unfolding shifted shift_through_nearest_ancestor found appended
-  shifted_before o z d = ap (λ (x : Option Text). some (get_or x (o ++ 91 ∷ z))) (found_before o z d) ∙ go (found o)
+  shifted_before o z d = ap (λ (x : Option Text). Some (unwrap_or x (o ++ 91 ∷ z))) (found_before o z d) ∙ go (found o)
     where
-      go : (x : Option Text) → some (get_or (appended (91 ∷ z) x) (o ++ 91 ∷ z)) ≡ some (get_or x o ++ 91 ∷ z)
-      go none = refl
-      go (some q) = refl
+      go : (x : Option Text) → Some (unwrap_or (appended (91 ∷ z) x) (o ++ 91 ∷ z)) ≡ Some (unwrap_or x o ++ 91 ∷ z)
+      go None = refl
+      go (Some q) = refl
 
   shifted_leaves : LeavesTarget shifted
   shifted_leaves = leaves_target shifted shifted_before
@@ -145,36 +146,36 @@ module _ (l : List Pair) (ends : all_ends l ≡ true) where
 
 -- A byte that no end has is in the path made exactly if it was in the path before.
 module _ (l : List Pair) (ends : all_ends l ≡ true) (b : ℕ) (n : NotInEnds b) where
-  pair_keeps : (alters : Bool) (skip : Option Text) (o q : Text) (i : ℕ) → replacement alters skip o (pair_at l i) ≡ some q → lacks_byte b q ≡ lacks_byte b o
+  pair_keeps : (alters : Bool) (skip : Option Text) (o q : Text) (i : ℕ) → replacement alters skip o (pair_at l i) ≡ Some q → lacks_byte b q ≡ lacks_byte b o
   unfolding replacement if_altered
   pair_keeps alters skip o q i e = go (is_nil (target_at l i)) (is_skipped skip (source_at l i)) alters (replace_prefix o (source_at l i) (target_at l i)) refl e
     where
-      made : (r : Text) → replace_prefix o (source_at l i) (target_at l i) ≡ some r → some r ≡ some q → lacks_byte b q ≡ lacks_byte b o
+      made : (r : Text) → replace_prefix o (source_at l i) (target_at l i) ≡ Some r → Some r ≡ Some q → lacks_byte b q ≡ lacks_byte b o
       made r k e =
           let w : r ≡ q = cc in
           rw (← w)
           (replaced_lacks b n.no_slash o (source_at l i) (target_at l i) r (n.no_end (source_at l i) (ends_source l ends i)) (n.no_end (target_at l i) (ends_target l ends i)) k)
 
-      altered : (c : Bool) (r : Text) → replace_prefix o (source_at l i) (target_at l i) ≡ some r → cond c none (some r) ≡ some q → lacks_byte b q ≡ lacks_byte b o
+      altered : (c : Bool) (r : Text) → replace_prefix o (source_at l i) (target_at l i) ≡ Some r → cond c None (Some r) ≡ Some q → lacks_byte b q ≡ lacks_byte b o
       altered true r k e = absurd (no_text e)
       altered false r k e = made r k e
 
-      go : (c d a : Bool) (r : Option Text) → replace_prefix o (source_at l i) (target_at l i) ≡ r → cond c none (cond d none (cond a (if_altered o r) r)) ≡ some q
+      go : (c d a : Bool) (r : Option Text) → replace_prefix o (source_at l i) (target_at l i) ≡ r → cond c None (cond d None (cond a (if_altered o r) r)) ≡ Some q
           → lacks_byte b q ≡ lacks_byte b o
       go true d a r k e = absurd (no_text e)
       go false true a r k e = absurd (no_text e)
-      go false false true none k e = absurd (no_text e)
-      go false false true (some r) k e = altered (equal r o) r k e
-      go false false false none k e = absurd (no_text e)
-      go false false false (some r) k e = made r k e
+      go false false true None k e = absurd (no_text e)
+      go false false true (Some r) k e = altered (equal r o) r k e
+      go false false false None k e = absurd (no_text e)
+      go false false false (Some r) k e = made r k e
 
-  longest_keeps : (alters : Bool) (skip : Option Text) (o q : Text) → longest_replacement (replacement alters skip o) l ≡ some q → lacks_byte b q ≡ lacks_byte b o
+  longest_keeps : (alters : Bool) (skip : Option Text) (o q : Text) → longest_replacement (replacement alters skip o) l ≡ Some q → lacks_byte b q ≡ lacks_byte b o
   unfolding longest_replacement
   longest_keeps alters skip o q e = go (longest_source (replacement alters skip o) l (length l)) e
     where
-      go : (i : Option ℕ) → replacement_at (replacement alters skip o) l i ≡ some q → lacks_byte b q ≡ lacks_byte b o
-      go none e = absurd (no_text e)
-      go (some i) e = pair_keeps alters skip o q i e
+      go : (i : Option ℕ) → replacement_at (replacement alters skip o) l i ≡ Some q → lacks_byte b q ≡ lacks_byte b o
+      go None e = absurd (no_text e)
+      go (Some i) e = pair_keeps alters skip o q i e
 
   next_keeps : (skip : Option Text) → KeepsByte b (next_replacement skip l)
   unfolding next_replacement
@@ -182,17 +183,17 @@ module _ (l : List Pair) (ends : all_ends l ≡ true) (b : ℕ) (n : NotInEnds b
 
   shifted_keeps : KeepsByte b (shifted l ends)
   unfolding shifted shift_through_nearest_ancestor
-  shifted_keeps o q e = go (longest_replacement (replacement false (some o) o) l) refl e
+  shifted_keeps o q e = go (longest_replacement (replacement false (Some o) o) l) refl e
     where
-      go : (x : Option Text) → longest_replacement (replacement false (some o) o) l ≡ x → some (get_or x o) ≡ some q → lacks_byte b q ≡ lacks_byte b o
-      go none h e = let w : o ≡ q = cc in ap (lacks_byte b) (sym w)
-      go (some r) h e = let w : r ≡ q = cc in rw (← w) (longest_keeps false (some o) o r h)
+      go : (x : Option Text) → longest_replacement (replacement false (Some o) o) l ≡ x → Some (unwrap_or x o) ≡ Some q → lacks_byte b q ≡ lacks_byte b o
+      go None h e = let w : o ≡ q = cc in ap (lacks_byte b) (sym w)
+      go (Some r) h e = let w : r ≡ q = cc in rw (← w) (longest_keeps false (Some o) o r h)
 
 module _ (l : List Pair) (ends : all_ends l ≡ true) where
   pub next_checks : (skip : Option Text) → LeavesTargetChecked (next_replacement skip l)
   next_checks skip = leaves_checked (next_replacement skip l) (next_leaves l ends skip) (λ b n. next_keeps l ends b n skip)
 
-  pub shift_checks : LeavesTargetChecked (λ (p : Text). some (shift_through_nearest_ancestor l p))
+  pub shift_checks : LeavesTargetChecked (λ (p : Text). Some (shift_through_nearest_ancestor l p))
   unfolding shifted
   shift_checks = leaves_checked (shifted l ends) (shifted_leaves l ends) (shifted_keeps l ends)
 
@@ -212,7 +213,7 @@ agree_same p r t x y y' e (inr h) = inr h
 
 module _ (l : List Pair) (ends : all_ends l ≡ true) (skip : Option Text) where
   -- The path made from the own part of p, and the same followed by the target part of p: one more step.
-  module _ (p : Text) (e : legal p ≡ true) (q : Text) (made : next_replacement skip l (own_part p) ≡ some q) where
+  module _ (p : Text) (e : legal p ≡ true) (q : Text) (made : next_replacement skip l (own_part p) ≡ Some q) where
     unbracketed : lacks_byte 91 q ≡ true
     unbracketed = next_keeps l ends 91 bracket_not skip (own_part p) q made ∙ own_lacks p
 
@@ -220,7 +221,7 @@ module _ (l : List Pair) (ends : all_ends l ≡ true) (skip : Option Text) where
     dots = next_keeps l ends 46 dot_not skip (own_part p) q made
 
     step_agrees : (n k : ℕ) → ((r : Text) → legal r ≡ true → Agree r (chain_from skip l n r (suc k)) (chain_from skip l n (own_part r) (suc k)))
-        → Agree p (chain_step (chain_from skip l n) p k (some (q ++ target_part p))) (chain_step (chain_from skip l n) (own_part p) k (some q))
+        → Agree p (chain_step (chain_from skip l n) p k (Some (q ++ target_part p))) (chain_step (chain_from skip l n) (own_part p) k (Some q))
     unfolding Agree chain_step checked chained_with_target
     step_agrees n k later = short (at_most255 whole) refl
       where
@@ -252,8 +253,8 @@ module _ (l : List Pair) (ends : all_ends l ≡ true) (skip : Option Text) where
       go : (o : Option Text) → next_replacement skip l (own_part p) ≡ o
           → ((r : Text) → legal r ≡ true → Agree r (chain_from skip l n r (suc k)) (chain_from skip l n (own_part r) (suc k)))
           → Agree p (chain_step (chain_from skip l n) p k (followed_by_target p o)) (chain_step (chain_from skip l n) (own_part p) k o)
-      go none h later = inl (ap (λ (x : Text). chained x k) (sym (own_parts p)))
-      go (some q) h later = step_agrees p e q h n k later
+      go None h later = inl (ap (λ (x : Text). chained x k) (sym (own_parts p)))
+      go (Some q) h later = step_agrees p e q h n k later
 
   pub chain_leaves : (p : Text) → legal p ≡ true → (chain skip l p ≡ chained_with_target p (chain skip l (own_part p))) ⊎ (chain skip l p ≡ stopped MadeTooLong)
   unfolding chain Agree

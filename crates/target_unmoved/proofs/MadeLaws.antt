@@ -1,8 +1,8 @@
 -- A text made from the own part of a path, and the same text with the target part of the path after it: questions 7 and 8.
+use Rattle.std.specs.Prelude.{Option, Some, None}
 use mathlib.Core.Path.{◌≡◌, refl, sym, ap, ◌∙◌}
 use mathlib.Core.Bool.{true, false, not}
 use mathlib.Core.List.{◌++◌}
-use mathlib.Core.Option.{Option, none, some}
 use Prim.Native.Nat.{ℕ}
 use native.Mathlib.Omega.{arith}
 use lib.Dec.{eqb}
@@ -33,13 +33,13 @@ module _ (p : Text) (e : legal p ≡ true) (q : Text) (unbracketed : lacks_byte 
   pub made_shorter : at_most255 (q ++ target_part p) ≡ true → at_most255 q ≡ true
   made_shorter h = short_fits q (omega (arith, fits_short (q ++ target_part p) h, length-append q (target_part p)))
 
-  made_checked : checked (q ++ target_part p) ≡ outcome_with_target p (some q)
+  made_checked : checked (q ++ target_part p) ≡ outcome_with_target p (Some q)
   unfolding checked outcome_with_target
   made_checked = rw made_legal
 
 -- What f makes of a text has the byte b exactly if that text has it.
 abbrev pub KeepsByte : ℕ → (Text → Option Text) → Type 0
-KeepsByte b f = (o q : Text) → f o ≡ some q → lacks_byte b q ≡ lacks_byte b o
+KeepsByte b f = (o q : Text) → f o ≡ Some q → lacks_byte b q ≡ lacks_byte b o
 
 -- Neither ends nor separators have such a byte.
 pub record NotInEnds (b : ℕ) : Type 0 where
@@ -58,5 +58,5 @@ unfolding checked_option followed_by_target outcome_with_target
 leaves_checked f leaves keeps p l = ap checked_option (leaves p l) ∙ go (f (own_part p)) refl
   where
     go : (o : Option Text) → f (own_part p) ≡ o → checked_option (followed_by_target p o) ≡ outcome_with_target p o
-    go none h = refl
-    go (some q) h = made_checked p l q (keeps 91 bracket_not (own_part p) q h ∙ own_lacks p) (keeps 46 dot_not (own_part p) q h)
+    go None h = refl
+    go (Some q) h = made_checked p l q (keeps 91 bracket_not (own_part p) q h ∙ own_lacks p) (keeps 46 dot_not (own_part p) q h)

@@ -1,8 +1,8 @@
 -- Maps leave the target part. A pair matches a path exactly if it matches the own part, so both select the same pair.
+use Rattle.std.specs.Prelude.{Option, Some, None}
 use mathlib.Core.Path.{◌≡◌, refl, sym, ap, ◌∙◌}
 use mathlib.Core.Bool.{Bool, true, false, cond, ◌&&◌, not}
 use mathlib.Core.List.{◌∷◌, ◌++◌, append-nil}
-use mathlib.Core.Option.{Option, none, some}
 use Prim.Native.Nat.{ℕ}
 use Rattle.text.specs.Text.{Text, is_nil, lacks_byte}
 use Rattle.text.proofs.TextLaws.{no_text}
@@ -35,27 +35,27 @@ match_before o z dotted key ends n =
 module _ (m : Map) (a b : ℕ → Text) (sources : (i : ℕ) → is_end (a i) ≡ true) (targets : (i : ℕ) → is_end (b i) ≡ true) where
   map_before : (o z : Text) → lacks_byte 46 o ≡ false → (i : Option ℕ) → map_by m a b (o ++ 91 ∷ z) i ≡ appended (91 ∷ z) (map_by m a b o i)
   unfolding appended
-  map_before o z dotted none = go m.mark
+  map_before o z dotted None = go m.mark
     where
-      go : (c : Bool) → cond c (some (o ++ 91 ∷ z)) none ≡ appended (91 ∷ z) (cond c (some o) none)
+      go : (c : Bool) → cond c (Some (o ++ 91 ∷ z)) None ≡ appended (91 ∷ z) (cond c (Some o) None)
       go true = refl
       go false = refl
-  map_before o z dotted (some i) = go (is_nil (map_target m i))
+  map_before o z dotted (Some i) = go (is_nil (map_target m i))
     where
-      go : (c : Bool) → cond c none (replace_prefix (o ++ 91 ∷ z) (a i) (b i)) ≡ appended (91 ∷ z) (cond c none (replace_prefix o (a i) (b i)))
+      go : (c : Bool) → cond c None (replace_prefix (o ++ 91 ∷ z) (a i) (b i)) ≡ appended (91 ∷ z) (cond c None (replace_prefix o (a i) (b i)))
       go true = refl
       go false = replace_before o z (a i) dotted (sources i) (b i)
 
   -- A byte that no end has is in the path made exactly if it was in the path before.
   map_keeps : (x : ℕ) → NotInEnds x → (i : Option ℕ) → KeepsByte x (λ (o : Text). map_by m a b o i)
-  map_keeps x n none o q e = go m.mark e
+  map_keeps x n None o q e = go m.mark e
     where
-      go : (c : Bool) → cond c (some o) none ≡ some q → lacks_byte x q ≡ lacks_byte x o
+      go : (c : Bool) → cond c (Some o) None ≡ Some q → lacks_byte x q ≡ lacks_byte x o
       go true h = let k : o ≡ q = cc in ap (lacks_byte x) (sym k)
       go false h = absurd (no_text h)
-  map_keeps x n (some i) o q e = go (is_nil (map_target m i)) e
+  map_keeps x n (Some i) o q e = go (is_nil (map_target m i)) e
     where
-      go : (c : Bool) → cond c none (replace_prefix o (a i) (b i)) ≡ some q → lacks_byte x q ≡ lacks_byte x o
+      go : (c : Bool) → cond c None (replace_prefix o (a i) (b i)) ≡ Some q → lacks_byte x q ≡ lacks_byte x o
       go true h = absurd (no_text h)
       go false h = replaced_lacks x n.no_slash o (a i) (b i) q (n.no_end (a i) (sources i)) (n.no_end (b i) (targets i)) h
 
@@ -97,15 +97,15 @@ module _ (m : Map) (em : all_ends m.pairs ≡ true) where
   home_checks = plain_checked m (map_target m) (map_source m) targets sources (map_size m)
 
   -- The invertibility check of a text with a dot is the same with and without the bracket.
-  invertible_before : (z : Text) (i : Option ℕ) (x : Option Text) → ((q : Text) → x ≡ some q → lacks_byte 46 q ≡ false)
+  invertible_before : (z : Text) (i : Option ℕ) (x : Option Text) → ((q : Text) → x ≡ Some q → lacks_byte 46 q ≡ false)
       → require_invertible m i (appended (91 ∷ z) x) ≡ appended (91 ∷ z) (require_invertible m i x)
   unfolding require_invertible match_target appended
-  invertible_before z i none d = refl
-  invertible_before z i (some q) d =
-      ap (λ (j : Option ℕ). cond (eq_index i j) (some (q ++ 91 ∷ z)) none) (match_before q z (d q refl) (map_target m) targets (map_size m))
+  invertible_before z i None d = refl
+  invertible_before z i (Some q) d =
+      ap (λ (j : Option ℕ). cond (eq_index i j) (Some (q ++ 91 ∷ z)) None) (match_before q z (d q refl) (map_target m) targets (map_size m))
       ∙ go (eq_index i (longest_match q (map_target m) (map_size m)))
     where
-      go : (c : Bool) → cond c (some (q ++ 91 ∷ z)) none ≡ appended (91 ∷ z) (cond c (some q) none)
+      go : (c : Bool) → cond c (Some (q ++ 91 ∷ z)) None ≡ appended (91 ∷ z) (cond c (Some q) None)
       go true = refl
       go false = refl
 
@@ -129,11 +129,11 @@ module _ (m : Map) (em : all_ends m.pairs ≡ true) where
   unfolding carry require_invertible
   carry_keeps x n o q e = go (map_source_to_target m o) refl e
     where
-      go : (r : Option Text) → map_source_to_target m o ≡ r → require_invertible m (match_source m o) r ≡ some q → lacks_byte x q ≡ lacks_byte x o
-      go none h k = absurd (no_text k)
-      go (some r) h k = kept (eq_index (match_source m o) (match_target m r)) k
+      go : (r : Option Text) → map_source_to_target m o ≡ r → require_invertible m (match_source m o) r ≡ Some q → lacks_byte x q ≡ lacks_byte x o
+      go None h k = absurd (no_text k)
+      go (Some r) h k = kept (eq_index (match_source m o) (match_target m r)) k
         where
-          kept : (c : Bool) → cond c (some r) none ≡ some q → lacks_byte x q ≡ lacks_byte x o
+          kept : (c : Bool) → cond c (Some r) None ≡ Some q → lacks_byte x q ≡ lacks_byte x o
           kept true k = let w : r ≡ q = cc in rw (← w) (out_keeps x n o r h)
           kept false k = absurd (no_text k)
 
@@ -154,13 +154,13 @@ strip_of_own p =
 module _ (s p : Text) (t : target_part s ≡ target_part p) where
   followed_same : (o : Option Text) → followed_by_target s o ≡ followed_by_target p o
   unfolding followed_by_target
-  followed_same none = refl
-  followed_same (some q) = rw t
+  followed_same None = refl
+  followed_same (Some q) = rw t
 
   outcome_same : (o : Option Text) → outcome_with_target s o ≡ outcome_with_target p o
   unfolding outcome_with_target
-  outcome_same none = refl
-  outcome_same (some q) = rw t
+  outcome_same None = refl
+  outcome_same (Some q) = rw t
 
 -- Translation is that of the stripped path, which has the same target part.
 module _ (m : Map) (em : all_ends m.pairs ≡ true) where

@@ -1,7 +1,6 @@
 -- Meaning: Whatever carries a path carries its own part, and the target part follows as a plain tail. Requirements: "Mapping treats the bracketed
 -- part as plain tail and leaves it."
-use Rattle.std.specs.Prelude.{ℕ, ◌≡◌, true, cond, List, ◌++◌, ◌⊎◌}
-use Rattle.std.proofs.Math.Option.{Option, none, some}
+use Rattle.std.specs.Prelude.{ℕ, ◌≡◌, true, cond, List, ◌++◌, ◌⊎◌, Option, Some, None}
 use Rattle.text.specs.Text.{Text}
 use Rattle.path_grammar.specs.Own.{own_part, target_part}
 use Rattle.path_grammar.specs.Legal.{legal, at_most255}
@@ -20,8 +19,8 @@ LeavesTarget f = (p : Text) → legal p ≡ true → f p ≡ followed_by_target 
 -- other.
 unfoldable pub outcome_with_target : Text → Option Text → Outcome
 unfolding at_most255 legal target_part
-outcome_with_target p none = refused NoPath
-outcome_with_target p (some q) = cond (at_most255 (q ++ target_part p)) (cond (legal q) (path (q ++ target_part p)) (refused MadeIllegal)) (refused MadeTooLong)
+outcome_with_target p None = refused NoPath
+outcome_with_target p (Some q) = cond (at_most255 (q ++ target_part p)) (cond (legal q) (path (q ++ target_part p)) (refused MadeIllegal)) (refused MadeTooLong)
 
 -- So it is with questions 6, 7 and 8 put to the answer of f.
 abbrev pub LeavesTargetChecked : (Text → Option Text) → Type 0
@@ -53,5 +52,5 @@ pub record TargetUnmoved : Type 0 where
   pub out_checked : (m : Map) → all_ends m.pairs ≡ true → LeavesTargetChecked (map_source_to_target m)
   pub home_checked : (m : Map) → all_ends m.pairs ≡ true → LeavesTargetChecked (map_target_to_source m)
   pub translation_checked : (m : Map) → all_ends m.pairs ≡ true → LeavesTargetChecked (translate_to_target m)
-  pub shifting_checked : (l : List Pair) → all_ends l ≡ true → LeavesTargetChecked (λ (p : Text). some (shift_through_nearest_ancestor l p))
+  pub shifting_checked : (l : List Pair) → all_ends l ≡ true → LeavesTargetChecked (λ (p : Text). Some (shift_through_nearest_ancestor l p))
   pub replacing_checked : (skip : Option Text) (l : List Pair) → all_ends l ≡ true → LeavesTargetChecked (next_replacement skip l)

@@ -4,26 +4,11 @@
 pub appended_pair_upper_bound : {A B : Type 0} → A × B → record { appended_pair : A; upper_bound : B }
 appended_pair_upper_bound t = record { appended_pair = t.0; upper_bound = t.1 }
 
-pub le_a_a_bound : {A B : Type 0} → A × B → record { le_a : A; a_bound : B }
-le_a_a_bound t = record { le_a = t.0; a_bound = t.1 }
-
 pub made_after_table_after : {A B : Type 0} → A × B → record { made_after : A; table_after : B }
 made_after_table_after t = record { made_after = t.0; table_after = t.1 }
 
-pub n_bound_slots_value : {A B : Type 0} → A × B → record { n_bound : A; slots_value : B }
-n_bound_slots_value t = record { n_bound = t.0; slots_value = t.1 }
-
 pub out_after_replies_after : {A B : Type 0} → A × B → record { out_after : A; replies_after : B }
 out_after_replies_after t = record { out_after = t.0; replies_after = t.1 }
-
-pub packed_t_in_bounds_n_in_bounds : {A B C : Type 0} → A × (B × C) → record { packed : A; t_in_bounds : B; n_in_bounds : C }
-packed_t_in_bounds_n_in_bounds t = record { packed = t.0; t_in_bounds = t.1.0; n_in_bounds = t.1.1 }
-
-pub replies_value_list_value : {A B : Type 0} → A × B → record { replies_value : A; list_value : B }
-replies_value_list_value t = record { replies_value = t.0; list_value = t.1 }
-
-pub valid_list_valid_list_2 : {A B : Type 0} → A × B → record { valid_list : A; valid_list_2 : B }
-valid_list_valid_list_2 t = record { valid_list = t.0; valid_list_2 = t.1 }
 
 pub value_block_after : {A B : Type 0} → A × B → record { value : A; block_after : B }
 value_block_after t = record { value = t.0; block_after = t.1 }
@@ -45,9 +30,6 @@ value_kept_after_table_after_out_after t = record { value = t.0; kept_after = t.
 
 pub value_lengths_after : {A B : Type 0} → A × B → record { value : A; lengths_after : B }
 value_lengths_after t = record { value = t.0; lengths_after = t.1 }
-
-pub value_line_after : {A B : Type 0} → A × B → record { value : A; line_after : B }
-value_line_after t = record { value = t.0; line_after = t.1 }
 
 pub value_out_after : {A B : Type 0} → A × B → record { value : A; out_after : B }
 value_out_after t = record { value = t.0; out_after = t.1 }

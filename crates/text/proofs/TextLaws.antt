@@ -1,54 +1,57 @@
 -- Lemmas about texts, and for the branches of the functions that compare them.
+use Rattle.std.specs.Prelude.{Option, Some, None}
+use Rattle.std.specs.Option.{is_some, option_copied, option_eq}
+use Rattle.std.specs.List.{list_any, slice_get}
+use Rattle.std.proofs.lemmas.Option.{slice_get-get_or}
+use denote.Ref.{Bor}
 use mathlib.Core.Path.{◌≡◌, refl, sym, ap, ◌∙◌}
 use mathlib.Core.Logic.{◌≢◌}
-use mathlib.Core.Bool.{Bool, true, false, not, cond, ◌&&◌, true≢false}
-use mathlib.Core.List.{[], ◌∷◌, ◌++◌}
-use mathlib.Core.Option.{Option, none, some}
-use Prim.Native.Nat.{ℕ, suc, ◌+◌, ◌-◌, ◌≤◌, ◌<◌}
-use native.Mathlib.Numerals.{add-one}
+use mathlib.Core.Bool.{Bool, true, false, not, cond, ◌&&◌, ◌||◌, true≢false}
+use mathlib.Core.List.{List, [], ◌∷◌, ◌++◌}
+use Prim.Native.Nat.{ℕ, suc, ◌-◌, ◌≤◌, ◌<◌}
 use native.Mathlib.Omega.{arith}
 use lib.Dec.{eqb}
 use lib.ListN.{length, get_or, drop, drop_of_length-le, length-append, get_or-append}
 use lib.Seq.{drop-cons, drop-append_seam}
 use borrow.Author.Tests.{eqb-true}
-use Rattle.text.specs.Text.{Text, is_nil, is_some, equal, strip_prefix, starts_with, ends_with_byte, lacks_byte}
+use Rattle.text.specs.Text.{Text, is_nil, equal, strip_prefix, starts_with, ends_with_byte, lacks_byte}
 use Rattle.text.proofs.BoolLaws.{and_l, and_r, and_yes, and_assoc, eqb_self, not_true}
 
 -- `none` is not `some`
-pub no_text : {q : Text} → none ≡ some q → ⊥
+pub no_text : {q : Text} → None ≡ Some q → ⊥
 no_text {q} e = let z : ◌≡◌ {A = ℕ} 0 1 = cc in omega arith
 
 -- The remainder after a prefix, and the whole text.
-pub after_up : (s p r : Text) → strip_prefix s p ≡ some r → p ≡ s ++ r
+pub after_up : (s p r : Text) → strip_prefix s p ≡ Some r → p ≡ s ++ r
 unfolding strip_prefix
 after_up [] p r e = cc
 after_up (a ∷ s) [] r e = cc
 after_up (a ∷ s) (b ∷ p) r e = go (eqb a b) refl (after_up s p r)
   where
-    go : (t : Bool) → eqb a b ≡ t → (strip_prefix s p ≡ some r → p ≡ s ++ r) → b ∷ p ≡ a ∷ (s ++ r)
+    go : (t : Bool) → eqb a b ≡ t → (strip_prefix s p ≡ Some r → p ≡ s ++ r) → b ∷ p ≡ a ∷ (s ++ r)
     go true h ih = let q : a ≡ b = eqb-true a b h in let k : p ≡ s ++ r = ih (rw h at e) in cc
     go false h ih = absurd (no_text (rw h at e))
 
-pub after_down : (s r : Text) → strip_prefix s (s ++ r) ≡ some r
+pub after_down : (s r : Text) → strip_prefix s (s ++ r) ≡ Some r
 unfolding strip_prefix
 after_down [] r = refl
 after_down (a ∷ s) r = rw (eqb_self a) (after_down s r)
 
-pub starts_rest : (s p : Text) → starts_with s p ≡ true → strip_prefix s p ≡ some (drop (length s) p)
+pub starts_rest : (s p : Text) → starts_with s p ≡ true → strip_prefix s p ≡ Some (drop (length s) p)
 unfolding starts_with
 starts_rest s p h = go (strip_prefix s p) refl
   where
-    go : (o : Option Text) → strip_prefix s p ≡ o → strip_prefix s p ≡ some (drop (length s) p)
-    go none e = absurd (true≢false (sym h ∙ ap is_some e))
-    go (some r) e = rw (e, after_up s p r e, drop-append_seam s r)
+    go : (o : Option Text) → strip_prefix s p ≡ o → strip_prefix s p ≡ Some (drop (length s) p)
+    go None e = absurd (true≢false (sym h ∙ ap is_some e))
+    go (Some r) e = rw (e, after_up s p r e, drop-append_seam s r)
 
 pub starts_long : (s p : Text) → starts_with s p ≡ true → length s ≤ length p
 unfolding starts_with
 starts_long s p h = go (strip_prefix s p) refl
   where
     go : (o : Option Text) → strip_prefix s p ≡ o → length s ≤ length p
-    go none e = absurd (true≢false (sym h ∙ ap is_some e))
-    go (some r) e = rw (after_up s p r e, length-append s r) (omega arith)
+    go None e = absurd (true≢false (sym h ∙ ap is_some e))
+    go (Some r) e = rw (after_up s p r e, length-append s r) (omega arith)
 
 -- Lemmas for `starts_with`.
 pub starts_shorter : (s p : Text) → length p < length s → false ≡ starts_with s p
@@ -79,16 +82,18 @@ starts_cons : (a : ℕ) (s : Text) (b : ℕ) (p : Text) → starts_with (a ∷ s
 unfolding starts_with strip_prefix
 starts_cons a s b p = go (eqb a b)
   where
-    go : (t : Bool) → is_some (cond t (strip_prefix s p) none) ≡ (t && is_some (strip_prefix s p))
+    go : (t : Bool) → is_some (cond t (strip_prefix s p) None) ≡ (t && is_some (strip_prefix s p))
     go true = refl
     go false = refl
 
-pub starts_on : (s p : Text) (i : ℕ) (same : Bool) → length s ≤ length p → i < length s → starts_with s p ≡ (same && starts_with (drop i s) (drop i p))
-    → starts_with s p ≡ (same && eqb (get_or s i 0) (get_or p i 0) && starts_with (drop (i + 1) s) (drop (i + 1) p))
-starts_on s p i same m h e =
-    let l : i < length p = omega arith in
-    let t : Bool = eqb (get_or s i 0) (get_or p i 0) in
-    rw (add-one i, and_assoc same t (starts_with (drop (suc i) s) (drop (suc i) p)), ← starts_cons (get_or s i 0) (drop (suc i) s) (get_or p i 0) (drop (suc i) p))
+-- The loop compares a pair: its two bytes are those at the number of pairs before it.
+pub starts_next : {P : Type 0} (s p : Text) (ys : List P) (y : P) (same : Bool) (a b : ℕ) → length ys < length s → length ys < length p → a ≡ get_or s (length ys) 0 → b ≡ get_or p (length ys) 0
+    → starts_with s p ≡ (same && starts_with (drop (length ys) s) (drop (length ys) p))
+    → starts_with s p ≡ (same && eqb a b && starts_with (drop (length (ys ++ y ∷ [])) s) (drop (length (ys ++ y ∷ [])) p))
+starts_next s p ys y same a b h l f g e =
+    let i : ℕ = length ys in
+    let n : length (ys ++ y ∷ []) ≡ suc i = simp length-append (omega arith) in
+    rw (n, f, g, and_assoc same (eqb (get_or s i 0) (get_or p i 0)) (starts_with (drop (suc i) s) (drop (suc i) p)), ← starts_cons (get_or s i 0) (drop (suc i) s) (get_or p i 0) (drop (suc i) p))
     (rw (drop-cons p i 0 l, drop-cons s i 0 h) at e)
 
 pub starts_end : (s p : Text) (i : ℕ) (same : Bool) → length s ≤ i → starts_with s p ≡ (same && starts_with (drop i s) (drop i p)) → same ≡ starts_with s p
@@ -145,7 +150,7 @@ equal_append (a ∷ s) r [] = refl
 equal_append (a ∷ s) r (b ∷ t) = go (eqb a b) (equal_append s r t)
   where
     go : (e : Bool) → equal (s ++ r) t ≡ (is_some (strip_prefix s t) && equal r (drop (length s) t))
-        → (e && equal (s ++ r) t) ≡ (is_some (cond e (strip_prefix s t) none) && equal r (drop (length s) t))
+        → (e && equal (s ++ r) t) ≡ (is_some (cond e (strip_prefix s t) None) && equal r (drop (length s) t))
     go true h = h
     go false h = refl
 
@@ -164,6 +169,16 @@ pub last_some : (b : ℕ) (s : Text) → length s ≢ 0 → eqb (get_or s (lengt
 last_some b [] l = absurd (l refl)
 last_some b (a ∷ s) l = let k : suc (length s) - 1 ≡ length s = omega arith in rw k (last_at b s a)
 
+pub last_get : (b : ℕ) (s : Text) (o : Option (Bor ℕ)) (r : Bor ℕ) → r.now ≡ b → option_copied o ≡ slice_get s (length s - 1) → option_eq (λ x y. eqb x.now y.now) o (Some r) ≡ ends_with_byte b s
+unfolding ends_with_byte
+last_get b [] None r f e = refl
+last_get b [] (Some x) r f e = cc
+last_get b (a ∷ s) None r f e = let g = slice_get-get_or (a ∷ s) (length (a ∷ s) - 1) 0 (omega arith) in cc
+last_get b (a ∷ s) (Some x) r f e =
+    let g = slice_get-get_or (a ∷ s) (length (a ∷ s) - 1) 0 (omega arith) in
+    let h : x.now ≡ get_or (a ∷ s) (length (a ∷ s) - 1) 0 = cc in
+    rw (f, h) (last_some b (a ∷ s) (λ z. absurd (omega arith)))
+
 pub last_snoc : (b : ℕ) (s : Text) (c : ℕ) → ends_with_byte b (s ++ c ∷ []) ≡ eqb c b
 unfolding ends_with_byte
 last_snoc b [] c = refl
@@ -176,16 +191,15 @@ last_after b [] a r = refl
 last_after b (c ∷ []) a r = refl
 last_after b (c ∷ d ∷ s) a r = last_after b (d ∷ s) a r
 
--- Lemmas for `lacks_byte`. The loop invariant is the test of the bytes read so far and of the remaining bytes.
-pub lacks_on : (b : ℕ) (s : Text) (i : ℕ) (free : Bool) → i < length s → lacks_byte b s ≡ (free && lacks_byte b (drop i s))
-    → lacks_byte b s ≡ (free && not (eqb (get_or s i 0) b) && lacks_byte b (drop (i + 1) s))
+-- Lemmas about `lacks_byte`. It is what `contains` denies.
+pub lacks_contains : (b : ℕ) (s : Text) → not (list_any (λ a. eqb a b) s) ≡ lacks_byte b s
 unfolding lacks_byte
-lacks_on b s i free h e =
-    rw (add-one i, and_assoc free (not (eqb (get_or s i 0) b)) (lacks_byte b (drop (suc i) s))) (rw (drop-cons s i 0 h) at e)
-
-pub lacks_end : (b : ℕ) (s : Text) (i : ℕ) (free : Bool) → length s ≤ i → lacks_byte b s ≡ (free && lacks_byte b (drop i s)) → free ≡ lacks_byte b s
-unfolding lacks_byte
-lacks_end b s i free h e = rw (e, drop_of_length-le s h) (sym (and_yes free))
+lacks_contains b [] = refl
+lacks_contains b (a ∷ s) = go (eqb a b) (lacks_contains b s)
+  where
+    go : (t : Bool) → not (list_any (λ a. eqb a b) s) ≡ lacks_byte b s → not (t || list_any (λ a. eqb a b) s) ≡ (not t && lacks_byte b s)
+    go true ih = refl
+    go false ih = ih
 
 pub lacks_first : (b a : ℕ) (r : Text) → lacks_byte b (a ∷ r) ≡ true → eqb a b ≡ false
 unfolding lacks_byte
@@ -218,8 +232,6 @@ pub lacks_join : (b : ℕ) (s r : Text) → lacks_byte b s ≡ true → lacks_by
 unfolding lacks_byte
 lacks_join b [] r e f = f
 lacks_join b (a ∷ s) r e f = rw (and_l (not (eqb a b)) (lacks_byte b s) e) (lacks_join b s r (and_r (not (eqb a b)) (lacks_byte b s) e) f)
-
-pub ruleset texts = (starts_shorter, starts_none, starts_differ, starts_on, starts_end, equal_lengths, equal_starts, last_none, last_some, lacks_on, lacks_end)
 
 -- A text is empty exactly if its length is 0.
 pub nil_length : (t : Text) → length t ≡ 0 → is_nil t ≡ true

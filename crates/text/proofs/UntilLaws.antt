@@ -2,16 +2,18 @@
 use mathlib.Core.Path.{◌≡◌, refl, sym, ap, ◌∙◌}
 use mathlib.Core.Bool.{Bool, true, false, not, cond, ◌&&◌, false≢true}
 use mathlib.Core.List.{[], ◌∷◌, ◌++◌, append-nil}
-use mathlib.Core.Logic.{◌≢◌}
-use Prim.Native.Nat.{ℕ, suc, ◌+◌, ◌-◌, ◌≤◌, ◌<◌}
-use native.Mathlib.Numerals.{add-one}
+use Prim.Native.Nat.{ℕ, suc, ◌+◌, ◌-◌, ◌≤◌}
 use native.Mathlib.Omega.{arith}
-use lib.Dec.{eqb}
-use lib.ListN.{length, take, drop, get_or, length-append, drop_of_length-le}
-use lib.Seq.{drop-cons, drop-append_seam, take-append_seam}
-use borrow.Author.Tests.{eqb-true}
+use lib.Dec.{eqb, ltb}
+use lib.ListN.{length, take, drop, length-append}
+use lib.Seq.{drop-append_seam, take-append_seam}
+use borrow.Author.Tests.{eqb-true, ltb-false}
+use Rattle.std.specs.Prelude.{Option, Some, None}
+use Rattle.std.specs.List.{position, position_or_len}
+use Rattle.std.specs.Option.{unwrap_or}
+use Rattle.std.proofs.lemmas.List.Sums.{prefix_len-le-length}
+use Rattle.std.proofs.lemmas.List.Recursion.{is_position_or_len}
 use Rattle.text.specs.Text.{Text, is_nil, ends_with_byte, lacks_byte, take_until, drop_until, drop_last}
-use Rattle.text.proofs.BoolLaws.{eqb_self}
 use Rattle.text.proofs.TextLaws.{lacks_first, lacks_rest}
 
 module _ (b : ℕ) where
@@ -105,38 +107,31 @@ module _ (b : ℕ) where
       let e : length (take_until b p) + length (drop_until b p) ≡ length p = sym (length-append (take_until b p) (drop_until b p)) ∙ ap length (until_parts p) in
       omega arith
 
--- Lemmas for `find_byte`: i bytes are passed, and the first byte b is as far from there as in the rest.
-pub Passed : ℕ → Text → ℕ → Type 0
-Passed b p i = length (take_until b p) ≡ i + length (take_until b (drop i p))
+-- Lemmas for `find_byte`.
+pub find_none : (b : ℕ) (p : Text) (lacks : Bool) → lacks ≡ lacks_byte b p → lacks ≡ true → length p ≡ length (take_until b p)
+find_none b p lacks e h = ap length (sym (take_until_all b p (sym e ∙ h)))
 
-module _ (b : ℕ) (p : Text) where
-  pub find_none : (lacks : Bool) → lacks ≡ lacks_byte b p → lacks ≡ true → length p ≡ length (take_until b p)
-  find_none lacks e h = ap length (sym (take_until_all b p (sym e ∙ h)))
+until_length : (b : ℕ) (p : Text) → length (take_until b p) ≡ position_or_len (λ a. eqb a b) p
+unfolding take_until
+until_length b p = is_position_or_len (λ (s : Text). length (take_until b s)) (λ a. eqb a b) refl step p
+  where
+    step : (a : ℕ) (r : Text) → length (take_until b (a ∷ r)) ≡ cond (eqb a b) 0 (1 + length (take_until b r))
+    step a r = go (eqb a b)
+      where
+        go : (t : Bool) → length (cond t [] (a ∷ take_until b r)) ≡ cond t 0 (1 + length (take_until b r))
+        go true = refl
+        go false = omega arith
 
-  pub find_first : Passed b p 0
-  unfolding Passed
-  find_first = omega arith
+-- What `position` found, or the length.
+pub position_or_end : (f : ℕ → Bool) (p : Text) (o : Option ℕ) (n : ℕ) → o ≡ position f p → n ≡ unwrap_or o (length p) → n ≡ position_or_len f p
+position_or_end f p o n e h = h ∙ rw e (go (ltb (position_or_len f p) (length p)) refl)
+  where
+    go : (t : Bool) → ltb (position_or_len f p) (length p) ≡ t → unwrap_or (cond t (Some (position_or_len f p)) None) (length p) ≡ position_or_len f p
+    go true k = refl
+    go false k = omega (arith, ltb-false (position_or_len f p) (length p) k, prefix_len-le-length (λ a. not (f a)) p)
 
-  pub find_on : (i : ℕ) → i < length p → get_or p i 0 ≢ b → Passed b p i → Passed b p (i + 1)
-  unfolding Passed take_until
-  find_on i h n e = go (eqb (get_or p i 0) b) refl
-    where
-      go : (t : Bool) → eqb (get_or p i 0) b ≡ t → length (take_until b p) ≡ i + 1 + length (take_until b (drop (i + 1) p))
-      go true k = absurd (n (eqb-true (get_or p i 0) b k))
-      go false k = let f : length (take_until b p) ≡ i + length (take_until b (get_or p i 0 ∷ drop (suc i) p)) = rw (drop-cons p i 0 h) at e in rw (add-one i) (omega (arith, rw k at f))
-
-  pub find_here : (i : ℕ) → i < length p → get_or p i 0 ≡ b → Passed b p i → i ≡ length (take_until b p)
-  unfolding Passed take_until
-  find_here i h k e =
-      let f : length (take_until b p) ≡ i + length (take_until b (get_or p i 0 ∷ drop (suc i) p)) = rw (drop-cons p i 0 h) at e in
-      let g : eqb (get_or p i 0) b ≡ true = rw k (eqb_self b) in
-      omega (arith, rw g at f)
-
-  pub find_end : (i : ℕ) → length p ≤ i → Passed b p i → i ≡ length (take_until b p)
-  unfolding Passed take_until
-  find_end i h e = omega (arith, rw (drop_of_length-le p h) at e)
-
-pub ruleset finding = (find_none, find_first, find_on, find_here, find_end)
+pub find_position : (b : ℕ) (p : Text) (o : Option ℕ) (n : ℕ) → o ≡ position (λ a. eqb a b) p → n ≡ unwrap_or o (length p) → n ≡ length (take_until b p)
+find_position b p o n e h = position_or_end (λ a. eqb a b) p o n e h ∙ sym (until_length b p)
 
 -- Lemmas about a text and its last byte.
 pub last_split : (b : ℕ) (t : Text) → ends_with_byte b t ≡ true → drop_last t ++ b ∷ [] ≡ t

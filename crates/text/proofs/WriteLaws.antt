@@ -1,4 +1,5 @@
 -- Lemmas about the contents of a lent buffer after copying.
+use Rattle.std.specs.Prelude.{Option, Some, None}
 use mathlib.Core.Path.{◌≡◌, refl, sym, ap, ◌∙◌}
 use mathlib.Core.Bool.{Bool, true, false, cond}
 use mathlib.Core.List.{◌++◌, append_assoc, List, []}
@@ -10,9 +11,8 @@ use lib.Dec.{leb}
 use lib.ListN.{length, get_or, set, take, drop, length-set, length-append, length-drop, length-take, take-append-drop}
 use lib.Seq.{paste, paste-zero, paste-suc, take-append_seam, drop-append-add, drop-drop, take_all, take-length, length-take-le}
 use borrow.Author.Tests.{le-leb, lt-leb, leb-true, leb-false}
+use borrow.Rule.Slice.PartMut.{put_mid}
 use Rattle.text.specs.Text.{Text, written, written_if_fits, fit_of, written_at}
-use Rattle.text.specs.declared.Fit.{Fit}
-use Rattle.text.specs.declared.Fit.TheVariants.{Written, Over}
 
 -- Lemmas for `write_at`.
 pub put_begin : (d : Text) (at : ℕ) (s : Text) → d ≡ paste d at s 0
@@ -32,6 +32,12 @@ put_end d s now at i g f h l e =
     let k : i ≡ length s = omega arith in
     rw (le-leb (at + length s) (length d) (omega arith), e, k, take-length s, append_assoc) refl
 
+pub put_part : (d s w : Text) (at : ℕ) → at ≤ length d → length s ≤ length d - at → w ≡ s → put_mid at (at + length s - at) d w ≡ written_if_fits at s d
+unfolding written_if_fits
+put_part d s w at g f e =
+    let k : at + length s - at ≡ length s = omega arith in
+    rw (e, k, le-leb (at + length s) (length d) (omega arith), drop-drop) refl
+
 pub put_outside : (d s : Text) (at : ℕ) → length d < at → d ≡ written_if_fits at s d
 unfolding written_if_fits
 put_outside d s at h = rw (lt-leb (at + length s) (length d) (omega arith))
@@ -39,8 +45,6 @@ put_outside d s at h = rw (lt-leb (at + length s) (length d) (omega arith))
 pub put_over : (d s : Text) (at : ℕ) → at ≤ length d → length d - at < length s → d ≡ written_if_fits at s d
 unfolding written_if_fits
 put_over d s at g h = rw (lt-leb (at + length s) (length d) (omega arith))
-
-pub ruleset puts = (put_begin, put_on, put_length, put_end, put_outside, put_over)
 
 -- A text placed at the beginning of a buffer.
 pub placed_first : (t out : Text) → length t ≤ length out → written_if_fits 0 t out ≡ written t out
@@ -77,32 +81,32 @@ pub rest_whole : (t : Text) (k : ℕ) → take (length t - k) (drop k t) ≡ dro
 rest_whole t k = take_all (length t - k) (drop k t) (simp length-drop (omega arith))
 
 -- What the result of a function that writes a text implies for the text.
-pub fit_length : (t out : Text) (n : ℕ) → fit_of t out ≡ Written n → n ≡ length t
+pub fit_length : (t out : Text) (n : ℕ) → fit_of t out ≡ Some n → n ≡ length t
 unfolding fit_of
 fit_length t out n e = go (leb (length t) (length out)) e
   where
-    go : (b : Bool) → cond b (Written (length t)) Over ≡ Written n → n ≡ length t
+    go : (b : Bool) → cond b (Some (length t)) None ≡ Some n → n ≡ length t
     go true h = cc
     go false h = cc
 
-pub fit_room : (t out : Text) (n : ℕ) → fit_of t out ≡ Written n → length t ≤ length out
+pub fit_room : (t out : Text) (n : ℕ) → fit_of t out ≡ Some n → length t ≤ length out
 unfolding fit_of
 fit_room t out n e = go (leb (length t) (length out)) refl
   where
     go : (b : Bool) → leb (length t) (length out) ≡ b → length t ≤ length out
     go true h = leb-true (length t) (length out) h
-    go false h = absurd (let z : ◌≡◌ {A = Fit} Over (Written n) = rw h at e in let y : ◌≡◌ {A = ℕ} 0 1 = cc in omega arith)
+    go false h = absurd (let z : ◌≡◌ {A = Option ℕ} None (Some n) = rw h at e in let y : ◌≡◌ {A = ℕ} 0 1 = cc in omega arith)
 
-pub fit_over : (t out : Text) → fit_of t out ≡ Over → length out < length t
+pub fit_over : (t out : Text) → fit_of t out ≡ None → length out < length t
 unfolding fit_of
 fit_over t out e = go (leb (length t) (length out)) refl
   where
     go : (b : Bool) → leb (length t) (length out) ≡ b → length out < length t
-    go true h = absurd (let z : ◌≡◌ {A = Fit} (Written (length t)) Over = rw h at e in let y : ◌≡◌ {A = ℕ} 0 1 = cc in omega arith)
+    go true h = absurd (let z : ◌≡◌ {A = Option ℕ} (Some (length t)) None = rw h at e in let y : ◌≡◌ {A = ℕ} 0 1 = cc in omega arith)
     go false h = leb-false (length t) (length out) h
 
 -- A text that was written to a scratch buffer is read back from it.
-module _ (t buf : Text) (f : Fit) (h : f ≡ fit_of t buf) (n : ℕ) (e : f ≡ Written n) where
+module _ (t buf : Text) (f : Option ℕ) (h : f ≡ fit_of t buf) (n : ℕ) (e : f ≡ Some n) where
   pub fit_is : n ≡ length t
   fit_is = fit_length t buf n (sym h ∙ e)
 

@@ -1,10 +1,8 @@
 -- Meaning: Byte texts, as lists of numbers (a byte is a number below 256). These definitions do not depend on the path syntax.
-use Rattle.std.specs.Prelude.{ℕ, ◌+◌, Bool, true, false, not, cond, ◌&&◌, List, [], ◌∷◌, ◌++◌, eqb, leb, length, take, drop}
+use Rattle.std.specs.Option.{is_some}
+use Rattle.std.specs.Prelude.{ℕ, ◌+◌, Bool, true, false, not, cond, ◌&&◌, List, [], ◌∷◌, ◌++◌, eqb, leb, length, take, drop, Option, Some, None}
 use Prim.Native.Char.{code}
 use Prim.Native.String.{String, [] as []ˢ, ◌∷◌ as ◌∷ˢ◌}
-use Rattle.std.proofs.Math.Option.{Option, none, some}
-use Rattle.text.specs.declared.Fit.{Fit}
-use Rattle.text.specs.declared.Fit.TheVariants.{Written, Over}
 
 -- A text: a list of bytes.
 abbrev pub Text : Type 0
@@ -29,14 +27,9 @@ equal (a ∷ s) (b ∷ t) = eqb a b && equal s t
 
 -- The remainder of the text p after the prefix s; none if p does not begin with s.
 unfoldable pub strip_prefix : Text → Text → Option Text
-strip_prefix [] p = some p
-strip_prefix (a ∷ s) [] = none
-strip_prefix (a ∷ s) (b ∷ p) = cond (eqb a b) (strip_prefix s p) none
-
--- The option has a value.
-abbrev pub is_some : Option Text → Bool
-is_some none = false
-is_some (some q) = true
+strip_prefix [] p = Some p
+strip_prefix (a ∷ s) [] = None
+strip_prefix (a ∷ s) (b ∷ p) = cond (eqb a b) (strip_prefix s p) None
 
 -- The text p begins with the prefix s.
 unfoldable pub starts_with : Text → Text → Bool
@@ -79,8 +72,8 @@ abbrev pub written_at : ℕ → Text → Text → Text
 written_at at t out = take at out ++ (t ++ drop (at + length t) out)
 
 -- The result of writing a text over the beginning of a buffer: the length written, or `Over` if the text does not fit.
-unfoldable pub fit_of : Text → Text → Fit
-fit_of t out = cond (leb (length t) (length out)) (Written (length t)) Over
+unfoldable pub fit_of : Text → Text → Option ℕ
+fit_of t out = cond (leb (length t) (length out)) (Some (length t)) None
 
 -- The buffer `out` with the text t written over it from index `at` if it fits there; otherwise the buffer unchanged.
 unfoldable pub written_if_fits : ℕ → Text → Text → Text

@@ -1,61 +1,39 @@
 -- Validating lists and texts one at a time: of their results, the refusal whose question is put first decides.
+use Rattle.std.specs.Prelude.{Result, Ok, Err, ⊤}
 use mathlib.Core.Path.{◌≡◌, refl, sym, ap, ◌∙◌}
 use mathlib.Core.Bool.{Bool, true, false, cond, ◌&&◌}
 use mathlib.Core.List.{List, [], ◌∷◌, ◌++◌}
-use Prim.Native.Nat.{ℕ, ◌≤◌, ◌<◌}
+use Prim.Native.Nat.{ℕ}
 use native.Mathlib.Omega.{arith}
 use lib.Dec.{leb}
-use borrow.Author.Tests.{le-leb, lt-leb}
 use Rattle.text.specs.Text.{Text}
 use Rattle.text.proofs.BoolLaws.{and_yes}
 use Rattle.path_grammar.specs.Legal.{legal, at_most255, is_end}
 use Rattle.refusal.specs.declared.Refusal.{Refusal}
-use Rattle.refusal.specs.declared.Validation.{Validation}
-use Rattle.refusal.specs.declared.Validation.TheVariants.{Passed, Refused}
 use Rattle.refusal.specs.Refusal.{refusal_rank, all_texts_short, all_texts_legal, validate_texts}
 use Rattle.path.specs.Calls.{path_new_call}
 use Rattle.validate.specs.Validate.{LentList, list_short, list_all, count_within_limit, every, first_failed, validate_call, first_refusal}
 
--- Lemmas for `first_refusal`.
-module _ (a b : Validation) where
-  pub earlier_passed : a ≡ Passed → b ≡ first_refusal a b
-  unfolding first_refusal
-  earlier_passed h = rw h
-
-  module _ (x : Refusal) (h : a ≡ Refused x) where
-    pub earlier_only : b ≡ Passed → Refused x ≡ first_refusal a b
-    unfolding first_refusal
-    earlier_only k = rw (h, k)
-
-    module _ (y : Refusal) (k : b ≡ Refused y) (m n : ℕ) (e : m ≡ refusal_rank x) (f : n ≡ refusal_rank y) where
-      pub earlier_first : m ≤ n → Refused x ≡ first_refusal a b
-      unfolding first_refusal
-      earlier_first l = rw (h, k, ← e, ← f, le-leb m n l)
-
-      pub earlier_second : n < m → Refused y ≡ first_refusal a b
-      unfolding first_refusal
-      earlier_second l = rw (h, k, ← e, ← f, lt-leb m n l)
-
 -- A refusal differs from a passed validation.
-pub never : (x : Refusal) → Refused x ≡ Passed → ⊥
+pub never : (x : Refusal) → ◌≡◌ {A = Result ⊤ Refusal} (Err x) (Ok tt) → ⊥
 never x h = let z : ◌≡◌ {A = ℕ} 0 1 = cc in omega arith
 
 -- If the combined result is no refusal, both results passed.
-pub none_earlier : (a b : Validation) → first_refusal a b ≡ Passed → (a ≡ Passed) × (b ≡ Passed)
+pub none_earlier : (a b : Result ⊤ Refusal) → first_refusal a b ≡ Ok tt → (a ≡ Ok tt) × (b ≡ Ok tt)
 unfolding first_refusal
-none_earlier Passed b h = (refl, h)
-none_earlier (Refused x) Passed h = absurd (never x h)
-none_earlier (Refused x) (Refused y) h = absurd (go (leb (refusal_rank x) (refusal_rank y)) h)
+none_earlier (Ok tt) b h = (refl, h)
+none_earlier (Err x) (Ok tt) h = absurd (never x h)
+none_earlier (Err x) (Err y) h = absurd (go (leb (refusal_rank x) (refusal_rank y)) h)
   where
-    go : (t : Bool) → cond t (Refused x) (Refused y) ≡ Passed → ⊥
+    go : (t : Bool) → ◌≡◌ {A = Result ⊤ Refusal} (cond t (Err x) (Err y)) (Ok tt) → ⊥
     go true k = never x k
     go false k = never y k
 
 -- Combining a result with one that passed leaves it unchanged.
-one_passed : (a : Validation) → first_refusal a Passed ≡ a
+one_passed : (a : Result ⊤ Refusal) → first_refusal a (Ok tt) ≡ a
 unfolding first_refusal
-one_passed Passed = refl
-one_passed (Refused x) = refl
+one_passed (Ok tt) = refl
+one_passed (Err x) = refl
 
 -- Validating two things yields, of the two results, the refusal whose question is put first.
 pub each : (a b c d f l e k : Bool) → first_refusal (first_failed f l e k) (first_failed a b c d) ≡ first_failed (a && f) (b && l) (c && e) (d && k)

@@ -1,27 +1,17 @@
 -- Lemmas about the pairs that are copied from a lent list.
-use mathlib.Core.Path.{◌≡◌, refl, sym, ◌∙◌}
+use mathlib.Core.Path.{◌≡◌, refl}
 use mathlib.Core.Bool.{Bool, true, false, not}
 use mathlib.Core.List.{List, []}
-use Prim.Native.Nat.{ℕ, ◌/◌, ◌*◌, ◌≤◌, ◌<◌}
+use Prim.Native.Nat.{ℕ, ◌/◌, ◌*◌, ◌≤◌}
 use native.Mathlib.Omega.{arith}
 use lib.Dec.{leb}
 use lib.ListN.{length}
-use borrow.Author.Tests.{le-leb, lt-leb, leb-true}
+use borrow.Author.Tests.{le-leb, leb-true}
 use Rattle.text.specs.Text.{Text}
-use Rattle.text.proofs.BoolLaws.{and_l, and_r, and_no, and_yes, known_true}
+use Rattle.text.proofs.BoolLaws.{and_l, and_r, known_true}
 use Rattle.pair_list.specs.Pair.{Pair}
 use Rattle.validate.specs.Validate.{LentList, lent_list, count_within_limit, ValidList}
 use Rattle.validate.specs.Select.{can_select, pairs_if_selectable}
-
--- Lemmas for `can_select`.
-module _ (places : List ℕ) (count room : ℕ) where
-  pub make_short : room < 256 → false ≡ can_select (lent_list [] places count) room
-  unfolding can_select
-  make_short h = rw (lt-leb 256 room h) (sym (and_no (count_within_limit (lent_list [] places count))))
-
-  pub make_counted : 256 ≤ room → (r : Bool) → r ≡ count_within_limit (lent_list [] places count) → r ≡ can_select (lent_list [] places count) room
-  unfolding can_select
-  make_counted h r e = rw (le-leb 256 room h) (e ∙ sym (and_yes (count_within_limit (lent_list [] places count))))
 
 -- If `can_select` returns true, the slice holds the pairs, there are at most 64, and the buffer has the capacity.
 module _ (places : List ℕ) (n room : ℕ) (b : Bool) (e : b ≡ can_select (lent_list [] places n) room) (h : not b ≡ false) where

@@ -1,13 +1,12 @@
 -- Meaning: Validation of the lists and texts of a call (questions 1 to 4). Requirements: "The first 'no' gives its number."
-use Rattle.std.specs.Prelude.{◌≡◌, ℕ, ◌*◌, ◌/◌, ◌≤◌, Bool, true, cond, ◌&&◌, List, [], ◌∷◌, leb, length}
+use Rattle.std.specs.Prelude.{◌≡◌, ℕ, ◌*◌, ◌/◌, ◌≤◌, Bool, true, cond, ◌&&◌, List, [], ◌∷◌, leb, length, Result, Ok, Err, ⊤}
 use Rattle.text.specs.Text.{Text}
 use Rattle.path_grammar.specs.Legal.{legal, at_most255, is_end}
 use Rattle.pair_list.specs.Pair.{Pair, all_short, all_ends}
 use Rattle.pair_list.specs.Places.{pairs_in, places_short, places_all}
 use Rattle.refusal.specs.declared.Refusal.TheVariants.{TooLong, Illegal, NotAnEnd, TooMany}
-use Rattle.refusal.specs.declared.Validation.{Validation}
-use Rattle.refusal.specs.declared.Validation.TheVariants.{Passed, Refused}
 use Rattle.refusal.specs.Refusal.{refusal_rank}
+use Rattle.refusal.specs.declared.Refusal.{Refusal}
 
 -- A list of pairs as a caller lends it: a store of bytes, the places in it, and the number of pairs.
 pub record LentList : Type 0 where
@@ -55,20 +54,20 @@ every passes [] = true
 every passes (x ∷ xs) = passes x && every passes xs
 
 -- The result of validation, given the results of questions 1, 2, 3 and 4: the first failed question decides.
-unfoldable pub first_failed : Bool → Bool → Bool → Bool → Validation
+unfoldable pub first_failed : Bool → Bool → Bool → Bool → Result ⊤ Refusal
 first_failed short isLegal ends counted =
-    cond short (cond isLegal (cond ends (cond counted Passed (Refused TooMany)) (Refused NotAnEnd)) (Refused Illegal)) (Refused TooLong)
+    cond short (cond isLegal (cond ends (cond counted (Ok tt) (Err TooMany)) (Err NotAnEnd)) (Err Illegal)) (Err TooLong)
 
 -- Validates the lists of a call, its texts, and those texts that count as ends. Requirements: "Is every path text at most 255 bytes ..?"
 -- "Is every text legal?" "Is every end a prim path, `/` or empty?" "Has each list .. at most 64 pairs"
-unfoldable pub validate_call : List LentList → List Text → List Text → Validation
+unfoldable pub validate_call : List LentList → List Text → List Text → Result ⊤ Refusal
 unfolding first_failed every at_most255 legal is_end list_short list_all count_within_limit
 validate_call lists texts ends =
     first_failed (every at_most255 texts && every list_short lists) (every legal texts && every (list_all legal) lists)
     (every is_end ends && every (list_all is_end) lists) (every count_within_limit lists)
 
 -- Of two results, the refusal whose question is put first, the one with the lower rank. Requirements: "The first 'no' gives its number".
-unfoldable pub first_refusal : Validation → Validation → Validation
-first_refusal Passed b = b
-first_refusal (Refused x) Passed = Refused x
-first_refusal (Refused x) (Refused y) = cond (leb (refusal_rank x) (refusal_rank y)) (Refused x) (Refused y)
+unfoldable pub first_refusal : Result ⊤ Refusal → Result ⊤ Refusal → Result ⊤ Refusal
+first_refusal (Ok tt) b = b
+first_refusal (Err x) (Ok tt) = Err x
+first_refusal (Err x) (Err y) = cond (leb (refusal_rank x) (refusal_rank y)) (Err x) (Err y)

@@ -1,8 +1,8 @@
 -- The theorem that every path made from legal texts is well-formed UTF-8: the text made is legal, or it is joined from texts whose characters are
 -- allowed.
+use Rattle.std.specs.Prelude.{Option, Some, None}
 use mathlib.Core.Path.{◌≡◌, refl, sym, ap, ◌∙◌}
 use mathlib.Core.Bool.{Bool, true, false, cond, false≢true}
-use mathlib.Core.Option.{Option, none, some}
 use Rattle.text.specs.Text.{Text, strip_prefix}
 use Rattle.text.proofs.TextLaws.{no_text, after_up}
 use Rattle.characters.specs.NameCharacter.{characters_allowed}
@@ -29,22 +29,22 @@ legal_well : (p : Text) → legal p ≡ true → WellFormed p
 legal_well p e = allowed_well p (legal_is_allowed p e)
 
 -- The remainder after a legal prefix begins between two characters.
-replaced_well : (p s t q : Text) → legal p ≡ true → legal s ≡ true → legal t ≡ true → replace_prefix p s t ≡ some q → WellFormed q
+replaced_well : (p s t q : Text) → legal p ≡ true → legal s ≡ true → legal t ≡ true → replace_prefix p s t ≡ Some q → WellFormed q
 unfolding replace_prefix
 replaced_well p s t q lp ls lt e = go (strip_prefix s p) refl e
   where
-    made : (r : Text) → strip_prefix s p ≡ some r → characters_allowed (join s t r) ≡ true
+    made : (r : Text) → strip_prefix s p ≡ Some r → characters_allowed (join s t r) ≡ true
     made r h =
         join_allowed s t r (legal_is_allowed t lt)
         (sym (allowed_after_lem s r (legal_is_allowed s ls)) ∙ ap characters_allowed (sym (after_up s p r h)) ∙ legal_is_allowed p lp)
 
-    choose : (r : Text) → strip_prefix s p ≡ some r → (b : Bool) → cond b (some (join s t r)) none ≡ some q → WellFormed q
+    choose : (r : Text) → strip_prefix s p ≡ Some r → (b : Bool) → cond b (Some (join s t r)) None ≡ Some q → WellFormed q
     choose r h true f = let z : join s t r ≡ q = cc in rw (← z) (allowed_well (join s t r) (made r h))
     choose r h false f = absurd (no_text f)
 
-    go : (o : Option Text) → strip_prefix s p ≡ o → join_some s t o ≡ some q → WellFormed q
-    go none h f = absurd (no_text f)
-    go (some r) h f = choose r h (can_follow s r) f
+    go : (o : Option Text) → strip_prefix s p ≡ o → join_some s t o ≡ Some q → WellFormed q
+    go None h f = absurd (no_text f)
+    go (Some r) h f = choose r h (can_follow s r) f
 
 -- A path that passed question 8 is legal.
 is_path : Outcome → Bool

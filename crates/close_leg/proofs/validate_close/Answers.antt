@@ -14,15 +14,15 @@ returns-then-at-gt32768 c = validate_start _ _ _ _ _ _ c.has_leg_room.ensures (a
 pub returns-in_default : goal.returns-in_default
 returns-in_default c =
     validate_over _ _ _ _ _ _ c.has_leg_room.ensures (ap not c.if-not-has_leg_room.false) c.if-at-gt32768.false _
-    c.remaining_room-room.ensures c.in_default.is
+    c.remaining_room.ensures c.in_default.is
 
 pub overflow_sub-total : goal.overflow_sub-total
-overflow_sub-total c = omega (arith, left_fits _ _ _ c.remaining_room-room.ensures _ c.in-Left.is)
+overflow_sub-total c = omega (arith, left_fits _ _ _ c.remaining_room.ensures _ c.in-Some.is)
 
 pub returns-then-store-total : goal.returns-then-store-total
 returns-then-store-total c =
     validate_short _ _ _ _ _ _ c.has_leg_room.ensures (ap not c.if-not-has_leg_room.false) c.if-at-gt32768.false _
-    c.remaining_room-room.ensures _ c.in-Left.is c.if-store-total.true
+    c.remaining_room.ensures _ c.in-Some.is c.if-store-total.true
 
 pub overflow_add-result : goal.overflow_add-result
 overflow_add-result c =
@@ -32,4 +32,4 @@ overflow_add-result c =
 pub returns : goal.returns
 returns c =
     validate_done _ _ _ _ _ _ c.has_leg_room.ensures (ap not c.if-not-has_leg_room.false) c.if-at-gt32768.false _
-    c.remaining_room-room.ensures _ c.in-Left.is c.if-store-total.false
+    c.remaining_room.ensures _ c.in-Some.is c.if-store-total.false

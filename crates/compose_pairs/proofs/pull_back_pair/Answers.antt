@@ -17,8 +17,8 @@ returns-then-not-mark c =
     pull_none (pairs_in args.bytes.now args.slots.now args.b.n) args.t.now its-mapPlainly args.b.n args.b.at args.bytes.now
     args.slots.now
     (pull_unmarked args.s.now its-mapPlainly args.mark
-    (map_none args.store.now args.places.now args.count args.mark args.s.now true c.best_prefix-f.result
-    c.best_prefix-f.ensures c.if-not-f.true)
+    (map_none args.store.now args.places.now args.count args.mark args.s.now true c.best_prefix.result
+    c.best_prefix.ensures c.in_default.is)
     (ap not c.if-not-mark.true))
     c.requires.packed
 
@@ -30,36 +30,36 @@ add_joined-requires c =
       t_in_bounds = pull_fits (pairs_in args.bytes.now args.slots.now args.b.n) args.t.now its-mapPlainly args.b.n args.b.at
           args.bytes.now args.slots.now _
           (pull_marked args.s.now its-mapPlainly args.mark
-          (map_none args.store.now args.places.now args.count args.mark args.s.now true c.best_prefix-f.result
-          c.best_prefix-f.ensures c.if-not-f.true)
+          (map_none args.store.now args.places.now args.count args.mark args.s.now true c.best_prefix.result
+          c.best_prefix.ensures c.in_default.is)
           (ap not c.if-not-mark.false))
           c.requires.t_in_bounds;
       n_in_bounds = c.requires.n_in_bounds;
     }
 
-pub returns-then-not-f : goal.returns-then-not-f
-returns-then-not-f c =
+pub returns-in_default : goal.returns-in_default
+returns-in_default c =
     let args = c.args in
     let its-mapPlainly = map_plainly true (lent_map args.store.now args.places.now args.count args.mark) args.s.now in
     pull_some (pairs_in args.bytes.now args.slots.now args.b.n) args.t.now its-mapPlainly args.b.n args.b.at args.bytes.now
     args.slots.now _
     (pull_marked args.s.now its-mapPlainly args.mark
-    (map_none args.store.now args.places.now args.count args.mark args.s.now true c.best_prefix-f.result
-    c.best_prefix-f.ensures c.if-not-f.true)
+    (map_none args.store.now args.places.now args.count args.mark args.s.now true c.best_prefix.result
+    c.best_prefix.ensures c.in_default.is)
     (ap not c.if-not-mark.false))
     _ _ _ _ c.add_joined.ensures
 
 pub slice_bounds-add_joined-count : goal.slice_bounds-add_joined-count
 slice_bounds-add_joined-count c =
     let args = c.args in
-    map_inside args.store.now args.places.now args.count args.mark args.s.now true c.best_prefix-f.result
-    c.best_prefix-f.ensures c.if-not-f.false _ c.key_at-old.ensures
+    map_inside args.store.now args.places.now args.count args.mark args.s.now true c.best_prefix.result
+    c.best_prefix.ensures _ c.in-Some.is _ c.key_at-old.ensures
 
 pub slice_bounds-add_joined-start : goal.slice_bounds-add_joined-start
 slice_bounds-add_joined-start c =
     let args = c.args in
-    map_inside args.store.now args.places.now args.count args.mark args.s.now true c.best_prefix-f.result
-    c.best_prefix-f.ensures c.if-not-f.false _ c.key_at-old.ensures
+    map_inside args.store.now args.places.now args.count args.mark args.s.now true c.best_prefix.result
+    c.best_prefix.ensures _ c.in-Some.is _ c.key_at-old.ensures
 
 pub add_joined-requires-2 : goal.add_joined-requires-2
 add_joined-requires-2 c =
@@ -69,8 +69,8 @@ add_joined-requires-2 c =
       t_in_bounds = pull_fits (pairs_in args.bytes.now args.slots.now args.b.n) args.t.now
           (map_plainly true (lent_map args.store.now args.places.now args.count args.mark) args.s.now) args.b.n args.b.at
           args.bytes.now args.slots.now _
-          (home_join args.store.now args.places.now args.count args.mark args.s.now true c.best_prefix-f.result
-          c.best_prefix-f.ensures c.if-not-f.false refl _ _ c.key_at-old.ensures c.key_at-new.ensures)
+          (home_join args.store.now args.places.now args.count args.mark args.s.now true c.best_prefix.result
+          c.best_prefix.ensures _ c.in-Some.is refl _ _ c.key_at-old.ensures c.key_at-new.ensures)
           c.requires.t_in_bounds;
       n_in_bounds = c.requires.n_in_bounds;
     }
@@ -81,6 +81,6 @@ returns c =
     pull_some (pairs_in args.bytes.now args.slots.now args.b.n) args.t.now
     (map_plainly true (lent_map args.store.now args.places.now args.count args.mark) args.s.now) args.b.n args.b.at
     args.bytes.now args.slots.now _
-    (home_join args.store.now args.places.now args.count args.mark args.s.now true c.best_prefix-f.result
-    c.best_prefix-f.ensures c.if-not-f.false refl _ _ c.key_at-old.ensures c.key_at-new.ensures)
+    (home_join args.store.now args.places.now args.count args.mark args.s.now true c.best_prefix.result
+    c.best_prefix.ensures _ c.in-Some.is refl _ _ c.key_at-old.ensures c.key_at-new.ensures)
     _ _ _ _ c.add_joined-2.ensures

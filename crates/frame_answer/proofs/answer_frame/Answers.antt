@@ -7,21 +7,21 @@ use borrow.Author.Rules.{rules}
 use Rattle.frame_answer.proofs.answer_frame.Goals as goal
 
 pub returns-in_default : goal.returns-in_default
-returns-in_default c = frame_bad _ _ c.decode_frame-d.ensures _ _ _ _ _ c.in_default.is c.write_line-end.ensures
+returns-in_default c = frame_bad _ _ c.decode_frame.ensures _ _ _ _ _ c.in_default.is c.write_line-end.ensures
 
 pub apply_frame-a-requires : goal.apply_frame-a-requires
 apply_frame-a-requires c = (
   search rules,
-  (header_within _ _ _ _ c.decode_frame-d.ensures c.in-Frame.is),
+  (header_within _ _ _ _ c.decode_frame.ensures c.in-Some.is),
 )
 
 pub overflow_add-kind : goal.overflow_add-kind
-overflow_add-kind c = omega (arith, kind_few c.args.frame.now _ _ _ c.decode_frame-d.ensures c.in-Frame.is)
+overflow_add-kind c = omega (arith, kind_few c.args.frame.now _ _ _ c.decode_frame.ensures c.in-Some.is)
 
 pub write_reply-end-requires : goal.write_reply-end-requires
 write_reply-end-requires c =
     record {
-      payload_fits = (frame_fits _ _ c.decode_frame-d.ensures _ 0 0 [] [] _ _ c.in-Frame.is _ _ _ _ c.apply_frame-a.ensures);
+      payload_fits = (frame_fits _ _ c.decode_frame.ensures _ 0 0 [] [] _ _ c.in-Some.is _ _ _ _ c.apply_frame-a.ensures);
       payload_len = (
         search rules,
         (c.requires),
@@ -30,5 +30,5 @@ write_reply-end-requires c =
 
 pub returns : goal.returns
 returns c =
-    frame_acted _ _ c.decode_frame-d.ensures _ _ _ _ _ _ _ c.in-Frame.is _ _ _ _ c.apply_frame-a.ensures
+    frame_acted _ _ c.decode_frame.ensures _ _ _ _ _ _ _ c.in-Some.is _ _ _ _ c.apply_frame-a.ensures
     c.write_reply-end.ensures

@@ -21,4 +21,4 @@ pub returns-in-Route : goal.returns-in-Route
 returns-in-Route c = as_route _ _ _ _ _ _ _ _ _ _ _ _ c.in-Route.is _ c.apply_route-w.ensures _ c.count_out.ensures
 
 pub returns-in-Count : goal.returns-in-Count
-returns-in-Count c = as_count _ _ _ _ _ _ _ _ _ _ c.in-Count.is _ c.held_count.ensures c.write_count.ensures
+returns-in-Count c = as_count _ _ _ _ _ _ _ _ _ _ c.in-Count.is c.write_count.ensures

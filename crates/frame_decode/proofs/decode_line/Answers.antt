@@ -1,5 +1,6 @@
 -- An overlong line has no bytes; otherwise the bytes are those that the digits decode to.
-use Rattle.frame_decode.proofs.LineLaws.{line_long, line_beyond, line_bytes_lem, line_bad, line_over}
+use mathlib.Core.Path.{◌∙◌}
+use Rattle.frame_decode.proofs.LineLaws.{line_long, line_beyond, line_decoded}
 use Rattle.text.proofs.WriteLaws.{part_size}
 use Rattle.frame_decode.proofs.decode_line.Goals as goal
 
@@ -16,17 +17,7 @@ returns-then-line-len c = by_clause_value (line_beyond _ _ _ c.if-line-len.true)
 pub slice_bounds-decode-end : goal.slice_bounds-decode-end
 slice_bounds-decode-end c = part_size _ _ c.if-line-len.false
 
-pub returns-in-Bytes : goal.returns-in-Bytes
-returns-in-Bytes c =
-    by_clause_value (line_bytes_lem _ _ c.if-len-gt4096.false c.if-line-len.false _ _ _ c.decode-d.ensures.value c.decode-d.ensures.out_after _
-    c.in-Bytes.is)
-
-pub returns-in-Bad : goal.returns-in-Bad
-returns-in-Bad c =
-    by_clause_value (line_bad _ _ c.if-len-gt4096.false c.if-line-len.false _ _ _ c.decode-d.ensures.value c.decode-d.ensures.out_after
-    c.in-Bad.is)
-
-pub returns-in-Over : goal.returns-in-Over
-returns-in-Over c =
-    by_clause_value (line_over _ _ c.if-len-gt4096.false c.if-line-len.false _ _ _ c.decode-d.ensures.value c.decode-d.ensures.out_after
-    c.in-Over.is)
+pub returns : goal.returns
+returns c =
+    let w = line_decoded _ _ c.if-len-gt4096.false c.if-line-len.false _ _ _ c.decode.ensures.value c.decode.ensures.out_after in
+    by_clause_value (c.unwrap_or.ensures ∙ w.0, w.1)

@@ -1,12 +1,12 @@
-use Rattle.line_reader.proofs.TakeLaws.{newlines}
-use borrow.Author.Rules.{rules}
+use Rattle.std.proofs.Common.{rules, tests, ◌∙◌, sym}
+use Rattle.std.proofs.lemmas.Iterator.{YieldsList-from_slice}
+use Rattle.std.proofs.lemmas.Iterator.Search.{position_from_yields_List}
+use lib.Dec.{eqb}
+use Rattle.text.proofs.UntilLaws.{position_or_end}
+use Rattle.line_reader.proofs.TakeLaws.{newline_position}
 use Rattle.line_reader.proofs.newline_index.Goals as goal
 
-pub returns-then-block-i-eq10 : goal.returns-then-block-i-eq10
-returns-then-block-i-eq10 c = search (rules, newlines)
-
-pub loop-i-preserved : goal.loop-i-preserved
-loop-i-preserved c = search (rules, newlines)
-
 pub returns : goal.returns
-returns c = search (rules, newlines)
+returns c =
+    position_or_end _ _ _ _ (position_from_yields_List (λ b. eqb b 10) _ _ c.position.result c.position.ensures.ran (YieldsList-from_slice c.args.block.now cc) (λ x b q k. search (rules, tests))) c.unwrap_or.ensures
+    ∙ sym (newline_position _)

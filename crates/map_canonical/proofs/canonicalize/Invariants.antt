@@ -1,6 +1,6 @@
 -- The loop. The sources with fewer than e elements are done: what is kept is what the definition keeps of those levels.
 use mathlib.Core.Path.{◌≡◌}
-use Prim.Native.Nat.{◌≤◌, ◌-◌}
+use Prim.Native.Nat.{◌≤◌}
 use lib.ListN.{length}
 use Rattle.pair_list_write.specs.Select.{HoldsEntries}
 use Rattle.map_spec.specs.New.{is_redundant}
@@ -9,7 +9,4 @@ use Rattle.map_canonical.proofs.LevelBranches.{below}
 use Rattle.map_canonical.proofs.canonicalize.Given as goal
 
 abbrev pub invariant-loop-e : goal.invariant-loop-e
-invariant-loop-e l = (l.e.0 ≤ l.top.0) × HoldsEntries l.places (below l.store l.places l.n is_redundant l.mark l.initial.kept l.e.0) l.initial.kept l.kept l.w × HoldsElementCounts l.store l.places l.n l.keys × (l.top.0 ≡ max_elements l.store l.places l.n) × (256 ≤ length l.kept) × (length l.kept ≡ length l.initial.kept)
-
-abbrev pub decreases-loop-e : goal.decreases-loop-e
-decreases-loop-e l = l.top.0 - l.e.0
+invariant-loop-e l = HoldsEntries l.places (below l.store l.places l.n is_redundant l.mark l.initial.kept l.e) l.initial.kept l.kept l.w × HoldsElementCounts l.store l.places l.n l.keys × (l.top.0 ≡ max_elements l.store l.places l.n) × (256 ≤ length l.kept) × (length l.kept ≡ length l.initial.kept)

@@ -1,4 +1,5 @@
 -- The composed list lies in the buffers (`into_holds`), since they are large enough for two validated maps, and its ends are legal.
+use Rattle.std.proofs.Common.{rules}
 use Rattle.map_function.specs.MapFunction.{map_of}
 use Rattle.compose_pairs.proofs.PackLaws.{into_holds}
 use Rattle.map_compose.proofs.CallBranches.{compose_fits_lem, built_map}
@@ -16,5 +17,5 @@ returns c =
     (compose_fits_lem args.store.now args.places.now args.outer args.istore.now args.iplaces.now args.inner args.bytes.now
     args.own.now c.requires.valid_list c.requires.valid_list_2 c.requires.scratch_room)
     _ _ _ (c.compose_into-b.ensures.value, (c.compose_into-b.ensures.bytes_after, c.compose_into-b.ensures.slots_after)))
-    _ c.both-both.ensures)
+    _ (search rules))
     _ _ _ _ _ c.from_ends_given.ensures

@@ -11,7 +11,6 @@ use Rattle.map_deepen.proofs.deepen_all.Goals as goal
 pub loop-i-init : goal.loop-i-init
 loop-i-init c = (
   search rules,
-  search rules,
   (let args = c.args in
       build_begin (λ (x : Pair). deepened_pair args.node.now args.above.now args.below.now x) args.store.now args.places.now _ _),
   refl,
@@ -28,17 +27,16 @@ deepen_pair-at-requires c =
           c.key_at-t.ensures;
       node_len_bound = c.requires.node_len_bound;
       below_len_bound = c.requires.below_len_bound;
-      at_in_bounds = omega (arith, c.requires.scratch_room.room, c.loop-i.invariant.1, c.loop-i.invariant.3, c.loop-i-test.true);
-      n_in_bounds = omega (arith, c.requires.scratch_room.entries, c.loop-i.invariant.4, c.loop-i-test.true);
+      at_in_bounds = omega (arith, c.requires.scratch_room.room, c.loop-i.invariant.0, c.loop-i.invariant.2, c.loop-i-test.true);
+      n_in_bounds = omega (arith, c.requires.scratch_room.entries, c.loop-i.invariant.3, c.loop-i-test.true);
     }
 
 pub loop-i-preserved : goal.loop-i-preserved
 loop-i-preserved c = (
-  search rules,
-  (omega (arith, c.deepen_pair-at.ensures.upper_bound, c.loop-i.invariant.1)),
+  (omega (arith, c.deepen_pair-at.ensures.upper_bound, c.loop-i.invariant.0)),
   (let args = c.args in
       build_next (λ (x : Pair). deepened_pair args.node.now args.above.now args.below.now x) args.store.now args.places.now
-      c.loop-i.i c.loop-i.at _ _ c.loop-i.invariant.2 _
+      c.loop-i.i c.loop-i.at _ _ c.loop-i.invariant.1 _
       (deepened_pair_lem args.store.now args.places.now c.loop-i.i args.node.now args.above.now args.below.now _ _
       c.key_at-s.ensures c.key_at-t.ensures)
       _ _ _ c.deepen_pair-at.ensures.appended_pair),
@@ -50,4 +48,4 @@ pub returns : goal.returns
 returns c =
     let args = c.args in
     build_end (λ (x : Pair). deepened_pair args.node.now args.above.now args.below.now x) args.store.now args.places.now args.n
-    c.loop-i.i _ _ _ c.loop-i-test.false c.loop-i.invariant.0 c.loop-i.invariant.2
+    c.loop-i.i _ _ _ c.loop-i-test.false c.loop-i.auto.i-end c.loop-i.invariant.1

@@ -8,7 +8,4 @@ use mathlib.Core.Path.{◌≡◌}
 use Rattle.map_deepen.proofs.deepen_all.Given as goal
 
 abbrev pub invariant-loop-i : goal.invariant-loop-i
-invariant-loop-i l = (l.i ≤ l.n) × (l.at ≤ 766 * l.i) × HoldsList (deepened_pairs l.node l.above l.below (pairs_in l.store l.places l.i)) l.i l.at l.bytes l.slots × (length l.bytes ≡ length l.initial.bytes) × (length l.slots ≡ length l.initial.slots)
-
-abbrev pub decreases-loop-i : goal.decreases-loop-i
-decreases-loop-i l = l.n - l.i
+invariant-loop-i l = (l.at ≤ 766 * l.i) × HoldsList (deepened_pairs l.node l.above l.below (pairs_in l.store l.places l.i)) l.i l.at l.bytes l.slots × (length l.bytes ≡ length l.initial.bytes) × (length l.slots ≡ length l.initial.slots)

@@ -10,7 +10,4 @@ use Rattle.map_deepen.specs.FindClass.{class_kept}
 use Rattle.map_deepen.proofs.find_class.Given as goal
 
 abbrev pub invariant-loop-i : goal.invariant-loop-i
-invariant-loop-i l = (l.i ≤ l.n) × (class_kept l.f ≡ best_below (λ (j : ℕ). has_prefix l.node (key_at l.store l.places false j)) (λ (j : ℕ). element_count (key_at l.store l.places false j)) l.i)
-
-abbrev pub decreases-loop-i : goal.decreases-loop-i
-decreases-loop-i l = l.n - l.i
+invariant-loop-i l = class_kept l.f ≡ best_below (λ (j : ℕ). has_prefix l.node (key_at l.store l.places false j)) (λ (j : ℕ). element_count (key_at l.store l.places false j)) l.i

@@ -4,20 +4,21 @@ use borrow.Author.Rules.{rules}
 use mathlib.Core.Path.{ap}
 use mathlib.Core.Bool.{not}
 use Rattle.map_function.proofs.from_parts.Goals as goal
+use Rattle.map_function.proofs.from_parts.Goals.{then-n-gt64-via-then-n-gt64, then-n-gt64-via-else-n-gt64+then-places-n, then-slots-n-via-then-slots-n, then-slots-n-via-else-slots-n+then-not-list_fits}
 
 pub returns-then-n-gt64 : goal.returns-then-n-gt64
-returns-then-n-gt64 c = refusing_map _ _ (parts_many _ _ _ _ _ _ _ c.if-n-gt64.true) _ _
-
-pub returns-then-places-n : goal.returns-then-places-n
-returns-then-places-n c = refusing_map _ _ (parts_beyond _ _ _ _ _ _ _ c.if-places-n.true) _ _
+returns-then-n-gt64 c = elim c.then-n-gt64.branch [
+  | then-n-gt64-via-then-n-gt64 w ↦ refusing_map _ _ (parts_many _ _ _ _ _ _ _ w.if-n-gt64.true) _ _
+  | then-n-gt64-via-else-n-gt64+then-places-n w ↦ refusing_map _ _ (parts_beyond _ _ _ _ _ _ _ w.if-places-n.true) _ _
+]
 
 pub returns-then-slots-n : goal.returns-then-slots-n
-returns-then-slots-n c = refusing_map _ _ (parts_slots _ _ _ _ _ _ _ c.if-n-gt64.false c.if-places-n.false c.if-slots-n.true) _ _
-
-pub returns-then-not-list_fits : goal.returns-then-not-list_fits
-returns-then-not-list_fits c =
-    refusing_map _ _
-    (parts_bytes _ _ _ _ _ _ _ c.if-n-gt64.false c.if-places-n.false c.if-slots-n.false _ c.list_fits.ensures (ap not c.if-not-list_fits.true)) _ _
+returns-then-slots-n c = elim c.then-slots-n.branch [
+  | then-slots-n-via-then-slots-n w ↦ refusing_map _ _ (parts_slots _ _ _ _ _ _ _ c.if-n-gt64.false c.if-places-n.false w.if-slots-n.true) _ _
+  | then-slots-n-via-else-slots-n+then-not-list_fits w ↦
+      refusing_map _ _
+      (parts_bytes _ _ _ _ _ _ _ c.if-n-gt64.false c.if-places-n.false w.if-slots-n.false _ w.list_fits.ensures (ap not w.if-not-list_fits.true)) _ _
+]
 
 pub returns : goal.returns
 returns c =

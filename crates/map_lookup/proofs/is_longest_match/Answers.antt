@@ -12,7 +12,7 @@ pub returns-then-not-matches : goal.returns-then-not-matches
 returns-then-not-matches c = best_unserved _ _ _ _ _ _ c.key_at-key.ensures c.matches.ensures (ap not c.if-not-matches.true)
 
 pub loop-k-init : goal.loop-k-init
-loop-k-init c = (search rules, held_there _ _ _ _ _ c.key_count-present.ensures c.key_offset-offset.ensures, least_left _ _ _ c.min-limit.ensures, least_right _ _ _ c.min-limit.ensures, unbeaten_none _ _ _)
+loop-k-init c = (held_there _ _ _ _ _ c.key_count-present.ensures c.key_offset-offset.ensures, least_left _ _ _ c.min-limit.ensures, least_right _ _ _ c.min-limit.ensures, unbeaten_none _ _ _)
 
 pub returns-then-other_wins : goal.returns-then-other_wins
 returns-then-other_wins c =
@@ -29,10 +29,9 @@ returns-then-other_wins c =
 pub loop-k-preserved : goal.loop-k-preserved
 loop-k-preserved c =
     let l = c.loop-k in (
-      search rules,
+      l.invariant.0,
       l.invariant.1,
       l.invariant.2,
-      l.invariant.3,
       unbeaten_on _ _ _ _ _ _ _
           (key_is
           c.args.store.now
@@ -40,11 +39,11 @@ loop-k-preserved c =
           c.args.invert
           _ _ c.key_offset-offset.ensures)
           c.key_at-key.ensures c.other_wins.ensures
-          c.if-other_wins.false l.invariant.4,
+          c.if-other_wins.false l.invariant.3,
     )
 
 pub returns : goal.returns
 returns c =
     let args = c.args in
     best_found _ args.store.now args.places.now _ args.invert _ _ _ c.key_at-key.ensures c.matches.ensures _
-    c.key_count-present.ensures _ c.if-n-i.false (ap not c.if-not-matches.false) c.loop-k-test.false c.loop-k.invariant.0 c.loop-k.invariant.4
+    c.key_count-present.ensures _ c.if-n-i.false (ap not c.if-not-matches.false) c.loop-k-test.false c.loop-k.auto.k-end c.loop-k.invariant.3

@@ -2,16 +2,13 @@ use mathlib.Core.Path.{sym, ◌∙◌}
 use native.Mathlib.Omega.{arith}
 use lib.Ieee.{of_bits}
 use Rattle.validate.proofs.PassedLaws.{text_short, second_short}
-use Rattle.map_function.proofs.NewBranches.{refusing_map, gives_map}
-use Rattle.map_new.proofs.NewBranches.{made_refused, made_passed, own_copy, pair_unfolded}
+use Rattle.map_function.proofs.NewBranches.{gives_map}
+use Rattle.map_new.proofs.NewBranches.{made_passed, own_copy, pair_unfolded}
 use Rattle.map_new.proofs.from_pair.Goals as goal
-
-pub returns-in-Refused : goal.returns-in-Refused
-returns-in-Refused c = refusing_map _ _ (pair_unfolded _ _ _ _ ∙ made_refused _ _ _ _ _ _ _ c.validate_ends-q.ensures _ c.in-Refused.is) _ _
 
 pub store_pair-requires : goal.store_pair-requires
 store_pair-requires c =
-    let its-sym = sym c.validate_ends-q.ensures ∙ c.in_default.is in
+    let its-sym = sym c.validate_ends.ensures ∙ c.in_ok-validate_ends.was in
     record {
       t_in_bounds = omega (arith, text_short _ _ _ _ its-sym, second_short _ _ _ _ _ its-sym);
       in_bounds = omega arith;
@@ -21,6 +18,6 @@ pub returns : goal.returns
 unfolding of_bits
 returns c =
     gives_map _ _
-    (pair_unfolded _ _ _ _ ∙ made_passed _ _ _ _ _ _ _ c.validate_ends-q.ensures c.in_default.is ∙ own_copy _ _
+    (pair_unfolded _ _ _ _ ∙ made_passed _ _ _ _ _ _ _ c.validate_ends.ensures c.in_ok-validate_ends.was ∙ own_copy _ _
     _ _ _ _ _ _ c.store_pair.ensures (omega arith))
     _ _ _ _ _ c.without_dropping.ensures

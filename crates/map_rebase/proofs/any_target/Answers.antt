@@ -1,27 +1,7 @@
-use borrow.Author.Rules.{rules}
-use Rattle.map_rebase.proofs.RebaseBranches.{targets}
+use Rattle.std.proofs.Common.{rules}
+use Rattle.pair_buffer.proofs.RangeLaws.{any_below}
+use Rattle.map_rebase.proofs.RebaseBranches.{target_in}
 use Rattle.map_rebase.proofs.any_target.Goals as goal
 
-pub loop-i-init : goal.loop-i-init
-loop-i-init c = search (rules, targets)
-
-pub key_at-requires : goal.key_at-requires
-key_at-requires c = search (rules, targets)
-
-pub has_prefix-requires : goal.has_prefix-requires
-has_prefix-requires c = search (rules, targets)
-
-pub returns-then-has_prefix : goal.returns-then-has_prefix
-returns-then-has_prefix c = search (rules, targets)
-
-pub overflow_add-i : goal.overflow_add-i
-overflow_add-i c = search (rules, targets)
-
-pub loop-i-smaller : goal.loop-i-smaller
-loop-i-smaller c = search (rules, targets)
-
-pub loop-i-preserved : goal.loop-i-preserved
-loop-i-preserved c = search (rules, targets)
-
 pub returns : goal.returns
-returns c = search (rules, targets)
+returns c = target_in _ _ _ _ _ (any_below _ _ _ _ _ _ c.any.ensures.ran (λ x q k. search rules) (λ x q k. search rules))

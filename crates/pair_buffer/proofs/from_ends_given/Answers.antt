@@ -2,9 +2,10 @@
 -- and 5 itself.
 use Rattle.map_function.proofs.NewBranches.{refusing_map, gives_map}
 use Rattle.pair_buffer.proofs.EndBranches.{given_many, given_beyond, given_parts, given_slots, given_bytes, given_illegal, given_long}
-use mathlib.Core.Path.{ap}
-use mathlib.Core.Bool.{not}
+use mathlib.Core.Path.{◌≡◌, sym, ap, ◌∙◌}
+use mathlib.Core.Bool.{not, false, false≢true}
 use Rattle.pair_buffer.proofs.from_ends_given.Goals as goal
+use Rattle.pair_buffer.proofs.from_ends_given.Goals.{else-short-via-then-short+else-legal, else-short-via-else-short}
 
 pub returns-then-n-gt64 : goal.returns-then-n-gt64
 returns-then-n-gt64 c =
@@ -22,12 +23,12 @@ returns-then-places-n c =
     c.if-places-n.true)
     _ _
 
-pub returns-then-both : goal.returns-then-both
-returns-then-both c =
+pub returns-then-legal : goal.returns-then-legal
+returns-then-legal c =
     let args = c.args in
     gives_map _ _
     (given_parts args.store.now args.places.now args.n args.legal args.mark args.time args.out.now args.slots.now
-    c.if-n-gt64.false c.if-places-n.false _ c.all_short-short.ensures _ c.both.ensures c.if-both.true)
+    c.if-n-gt64.false c.if-places-n.false _ c.all_short-short.ensures c.if-short.true c.if-legal.true)
     _ _ _ _ _ c.from_parts.ensures
 
 pub returns-then-slots-n : goal.returns-then-slots-n
@@ -35,7 +36,7 @@ returns-then-slots-n c =
     let args = c.args in
     refusing_map _ _
     (given_slots args.store.now args.places.now args.n args.legal args.mark args.time args.out.now args.slots.now
-    c.if-n-gt64.false c.if-places-n.false _ c.all_short-short.ensures _ c.both.ensures c.if-slots-n.true)
+    c.if-n-gt64.false c.if-places-n.false _ c.all_short-short.ensures c.if-slots-n.true)
     _ _
 
 pub returns-then-not-list_fits : goal.returns-then-not-list_fits
@@ -43,17 +44,21 @@ returns-then-not-list_fits c =
     let args = c.args in
     refusing_map _ _
     (given_bytes args.store.now args.places.now args.n args.legal args.mark args.time args.out.now args.slots.now
-    c.if-n-gt64.false c.if-places-n.false _ c.all_short-short.ensures _ c.both.ensures c.if-slots-n.false _
+    c.if-n-gt64.false c.if-places-n.false _ c.all_short-short.ensures c.if-slots-n.false _
     c.list_fits.ensures (ap not c.if-not-list_fits.true))
     _ _
 
-pub returns-then-short : goal.returns-then-short
-returns-then-short c =
+pub returns-then-short-2 : goal.returns-then-short-2
+returns-then-short-2 c =
     let args = c.args in
+    let illegal : args.legal ≡ false = elim c.else-short.branch [
+      | else-short-via-then-short+else-legal w ↦ w.if-legal.false
+      | else-short-via-else-short w ↦ absurd (false≢true (sym w.if-short.false ∙ c.if-short-2.true))
+    ] in
     refusing_map _ _
     (given_illegal args.store.now args.places.now args.n args.legal args.mark args.time args.out.now args.slots.now
-    c.if-n-gt64.false c.if-places-n.false _ c.all_short-short.ensures _ c.both.ensures c.if-slots-n.false _
-    c.list_fits.ensures (ap not c.if-not-list_fits.false) c.if-both.false c.if-short.true)
+    c.if-n-gt64.false c.if-places-n.false _ c.all_short-short.ensures c.if-slots-n.false _
+    c.list_fits.ensures (ap not c.if-not-list_fits.false) c.if-short-2.true illegal)
     _ _
 
 pub returns : goal.returns
@@ -61,6 +66,6 @@ returns c =
     let args = c.args in
     refusing_map _ _
     (given_long args.store.now args.places.now args.n args.legal args.mark args.time args.out.now args.slots.now
-    c.if-n-gt64.false c.if-places-n.false _ c.all_short-short.ensures _ c.both.ensures c.if-slots-n.false _
-    c.list_fits.ensures (ap not c.if-not-list_fits.false) c.if-short.false)
+    c.if-n-gt64.false c.if-places-n.false _ c.all_short-short.ensures c.if-slots-n.false _
+    c.list_fits.ensures (ap not c.if-not-list_fits.false) c.if-short-2.false)
     _ _

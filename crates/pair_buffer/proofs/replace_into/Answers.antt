@@ -1,5 +1,5 @@
 use native.Mathlib.Omega.{arith}
-use Rattle.pair_buffer.proofs.EndBranches.{replace_long, replace_not, replace_start, replace_made, replace_over}
+use Rattle.pair_buffer.proofs.EndBranches.{replace_long, replace_not, replace_start, replace_made}
 use Rattle.text.proofs.Clauses.{value_out_after}
 use mathlib.Core.Path.{ap}
 use mathlib.Core.Bool.{not}
@@ -27,14 +27,8 @@ slice_bounds-join-start c =
     let args = c.args in
     replace_start args.path.now args.old.now args.new.now _ c.has_prefix.ensures args.out.now (ap not c.if-not-has_prefix.false)
 
-pub returns-in-Written : goal.returns-in-Written
-returns-in-Written c =
+pub returns : goal.returns
+returns c =
     let args = c.args in
     value_out_after (replace_made args.path.now args.old.now args.new.now _ c.has_prefix.ensures args.out.now (ap not c.if-not-has_prefix.false) _ _
-    (c.join-fit.ensures.value, c.join-fit.ensures.out_after) _ c.in-Written.is)
-
-pub returns-in-Over : goal.returns-in-Over
-returns-in-Over c =
-    let args = c.args in
-    value_out_after (replace_over args.path.now args.old.now args.new.now _ c.has_prefix.ensures args.out.now (ap not c.if-not-has_prefix.false) _ _
-    (c.join-fit.ensures.value, c.join-fit.ensures.out_after) c.in-Over.is)
+    (c.join.ensures.value, c.join.ensures.out_after) _ c.unwrap_or.ensures)

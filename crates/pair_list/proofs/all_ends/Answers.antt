@@ -1,27 +1,12 @@
-use Rattle.pair_list.proofs.PlaceBranches.{placing}
-use borrow.Author.Rules.{rules}
+use Rattle.std.proofs.Common.{rules, tests, ◌∙◌, refl, arith}
+use Rattle.std.proofs.lemmas.Iterator.{YieldsList-from_range}
+use Rattle.std.proofs.lemmas.Iterator.Search.{all_from_yields_List}
+use Rattle.path_grammar.specs.Legal.{is_end}
+use Rattle.text_list.specs.Places.{text_at}
+use Rattle.pair_list.proofs.PlaceBranches.{range_all}
 use Rattle.pair_list.proofs.all_ends.Goals as goal
 
-pub loop-j-init : goal.loop-j-init
-loop-j-init c = search (rules, placing)
-
-pub text_at-requires : goal.text_at-requires
-text_at-requires c = search (rules, placing)
-
-pub is_end-requires : goal.is_end-requires
-is_end-requires c = search (rules, placing)
-
-pub returns-then-not-is_end : goal.returns-then-not-is_end
-returns-then-not-is_end c = search (rules, placing)
-
-pub overflow_add-j : goal.overflow_add-j
-overflow_add-j c = search (rules, placing)
-
-pub loop-j-smaller : goal.loop-j-smaller
-loop-j-smaller c = search (rules, placing)
-
-pub loop-j-preserved : goal.loop-j-preserved
-loop-j-preserved c = search (rules, placing)
-
 pub returns : goal.returns
-returns c = search (rules, placing)
+returns c =
+    all_from_yields_List (λ j. is_end (text_at c.args.store.now c.args.places.now j)) _ _ c.all.result c.all.ensures.ran (YieldsList-from_range 0 c.args.n c.args.n refl (omega arith)) (λ x b q k. search (rules, tests))
+    ∙ range_all _ _ is_end _

@@ -1,24 +1,11 @@
-use Rattle.pair_list.proofs.PlaceBranches.{placing}
-use borrow.Author.Rules.{rules}
+use Rattle.std.proofs.Common.{rules, tests, ◌∙◌, refl, arith}
+use Rattle.std.proofs.lemmas.Iterator.{YieldsList-from_range}
+use Rattle.std.proofs.lemmas.Iterator.Search.{all_from_yields_List}
+use Rattle.pair_list.specs.Places.{is_short_at}
+use Rattle.pair_list.proofs.PlaceBranches.{range_short}
 use Rattle.pair_list.proofs.all_short.Goals as goal
 
-pub loop-j-init : goal.loop-j-init
-loop-j-init c = search (rules, placing)
-
-pub is_short_at-requires : goal.is_short_at-requires
-is_short_at-requires c = search (rules, placing)
-
-pub returns-then-not-is_short_at : goal.returns-then-not-is_short_at
-returns-then-not-is_short_at c = search (rules, placing)
-
-pub overflow_add-j : goal.overflow_add-j
-overflow_add-j c = search (rules, placing)
-
-pub loop-j-smaller : goal.loop-j-smaller
-loop-j-smaller c = search (rules, placing)
-
-pub loop-j-preserved : goal.loop-j-preserved
-loop-j-preserved c = search (rules, placing)
-
 pub returns : goal.returns
-returns c = search (rules, placing)
+returns c =
+    all_from_yields_List (is_short_at c.args.store.now c.args.places.now) _ _ c.all.result c.all.ensures.ran (YieldsList-from_range 0 c.args.n c.args.n refl (omega arith)) (λ x b q k. search (rules, tests))
+    ∙ range_short _ _ _

@@ -1,12 +1,5 @@
-use Rattle.pair_list.proofs.PlaceBranches.{placing}
-use borrow.Author.Rules.{rules}
+use Rattle.pair_list.proofs.PlaceBranches.{key_missing}
 use Rattle.pair_list.proofs.key_at.Goals as goal
 
 pub returns-then-places-i : goal.returns-then-places-i
-returns-then-places-i c = search (rules, placing)
-
-pub returns-then-invert : goal.returns-then-invert
-returns-then-invert c = search (rules, placing)
-
-pub returns : goal.returns
-returns c = search (rules, placing)
+returns-then-places-i c = key_missing _ _ _ _ c.if-places-i.true

@@ -19,7 +19,6 @@ returns-then-not-list_fits c = value_out_after_slots_after (list_full _ _ _ _ _ 
 
 pub loop-i-init : goal.loop-i-init
 loop-i-init c = (
-  search rules,
   list_fits _ _ _ _ _ c.if-out-at.false _ c.list_fits.ensures (ap not c.if-not-list_fits.false),
   (let args = c.args in
       (at_begin _ _ _, (text_begin args.store.now args.places.now args.at _, slots_begin _ _ _ _))),
@@ -29,10 +28,9 @@ loop-i-init c = (
 
 pub loop-i-preserved : goal.loop-i-preserved
 loop-i-preserved c = (
-  search rules,
-  c.loop-i.invariant.1,
-  (append_next _ _ _ _ _ _ _ _ _ _ c.loop-i-test.true c.loop-i.invariant.1 c.loop-i.invariant.3
-      (omega (arith, c.if-slots-n.false, c.loop-i-test.true, c.loop-i.invariant.4)) c.loop-i.invariant.2 _ _ c.key_at-s.ensures
+  c.loop-i.invariant.0,
+  (append_next _ _ _ _ _ _ _ _ _ _ (omega arith) c.loop-i.invariant.0 c.loop-i.invariant.2
+      (omega (arith, c.if-slots-n.false, c.loop-i.invariant.3)) c.loop-i.invariant.1 _ _ c.key_at-s.ensures
       c.key_at-t.ensures _ _ _ (c.push_pair-end.ensures.value, (c.push_pair-end.ensures.bytes_after, c.push_pair-end.ensures.slots_after))),
   search rules,
   search rules,
@@ -40,5 +38,5 @@ loop-i-preserved c = (
 
 pub returns : goal.returns
 returns c =
-    value_out_after_slots_after (list_done _ _ _ _ _ _ c.if-slots-n.false c.loop-i.invariant.1 _ _ _ c.loop-i-test.false c.loop-i.invariant.0
-    c.loop-i.invariant.2.1.0 c.loop-i.invariant.2.1.1)
+    value_out_after_slots_after (list_done _ _ _ _ _ _ c.if-slots-n.false c.loop-i.invariant.0 _ _ _ (omega arith) (omega arith)
+    c.loop-i.invariant.1.1.0 c.loop-i.invariant.1.1.1)

@@ -1,8 +1,6 @@
 use native.Mathlib.Omega.{arith}
 use lib.ListN.{length-set}
 use Rattle.pair_list_write.proofs.WriteBranches.{entry_over, entry_fits}
-use Rattle.pair_list_write.proofs.write_entry.Reads as reads
-use Rattle.pair_list_write.proofs.write_entry.Lts as lts
 use Rattle.pair_list_write.proofs.write_entry.Goals as goal
 
 pub returns-then-slots-w : goal.returns-then-slots-w

@@ -1,36 +1,19 @@
 use mathlib.Core.Path.{ap, ◌∙◌}
 use lib.ListN.{length}
-use Rattle.text.proofs.BoolLaws.{known_false, known_true}
+use Rattle.text.proofs.BoolLaws.{known_true}
 use Rattle.text.proofs.WriteLaws.{rest_whole}
 use Rattle.path_prefix.proofs.PrefixLaws.{prefix_long}
-use Rattle.path_join.proofs.ReplaceLaws.{replace_prefix_lem, replace_other}
+use Rattle.path_join.proofs.ReplaceLaws.{replace_prefix_lem}
 use Rattle.refusal.specs.Outcome.{checked_option}
 use Rattle.path_derive.proofs.UnfoldedCalls.{replace_unfolded}
 use Rattle.path_derive.proofs.PartLaws.{written_in_parts}
-use Rattle.refusal.proofs.CallBranches.{answered_refused, answered_short, answered_passed, refusing, answering}
+use Rattle.refusal.proofs.CallBranches.{answered_passed, answering}
 use mathlib.Core.Bool.{not}
 use Rattle.path_derive.proofs.replace_prefix.Goals as goal
 
 -- the clauses by their names
 by_clause_returns_path : {A B : Type 0} → A × B → record { returns_path : A; written_in_parts : B }
 by_clause_returns_path t = record { returns_path = t.0; written_in_parts = t.1 }
-
-pub returns-in-Refused : goal.returns-in-Refused
-returns-in-Refused c = by_clause_returns_path (refusing _ _ (replace_unfolded _ _ _ _ ∙ answered_refused _ _ _ _ c.validate_three_texts-q.ensures _ c.in-Refused.is) _, tt)
-
-pub returns-then-out-lt255 : goal.returns-then-out-lt255
-returns-then-out-lt255 c = by_clause_returns_path (refusing _ _ (replace_unfolded _ _ _ _ ∙ answered_short _ _ _ _ c.validate_three_texts-q.ensures c.in_default.is c.if-out-lt255.true) _, tt)
-
-pub returns-then-not-has_prefix : goal.returns-then-not-has_prefix
-unfolding checked_option
-returns-then-not-has_prefix c =
-    by_clause_returns_path (
-      refusing _ _
-          (replace_unfolded _ _ _ _ ∙ answered_passed _ _ _ _ c.validate_three_texts-q.ensures c.in_default.is
-          c.if-out-lt255.false ∙ ap checked_option (replace_other _ _ _ (known_false c.has_prefix.ensures (ap not c.if-not-has_prefix.true))))
-          _,
-      tt,
-    )
 
 pub slice_bounds-write_joined-count : goal.slice_bounds-write_joined-count
 slice_bounds-write_joined-count c = prefix_long _ _ (known_true c.has_prefix.ensures (ap not c.if-not-has_prefix.false))
@@ -43,7 +26,7 @@ unfolding checked_option
 returns c =
     let joined = rw (rest_whole c.args.path.now (length c.args.old.now)) at c.write_joined.ensures in by_clause_returns_path (
       answering _ _
-          (replace_unfolded _ _ _ _ ∙ answered_passed _ _ _ _ c.validate_three_texts-q.ensures c.in_default.is
+          (replace_unfolded _ _ _ _ ∙ answered_passed _ _ _ _ c.validate_texts.ensures c.in_ok-validate_texts.was
           c.if-out-lt255.false ∙ ap checked_option (replace_prefix_lem _ _ _ (known_true c.has_prefix.ensures (ap not c.if-not-has_prefix.false))))
           _ _ _ joined,
       written_in_parts _ _ _ _ _ _ joined,

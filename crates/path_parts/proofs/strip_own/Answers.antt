@@ -8,18 +8,6 @@ loop-i-init c = search (rules, strips)
 pub emit-j-requires : goal.emit-j-requires
 emit-j-requires c = search (rules, strips)
 
-pub bounds-own-i : goal.bounds-own-i
-bounds-own-i c = search (rules, strips)
-
-pub inside_changes-inside-requires : goal.inside_changes-inside-requires
-inside_changes-inside-requires c = search (rules, strips)
-
-pub overflow_add-i : goal.overflow_add-i
-overflow_add-i c = search (rules, strips)
-
-pub loop-i-smaller : goal.loop-i-smaller
-loop-i-smaller c = search (rules, strips)
-
 pub loop-i-preserved : goal.loop-i-preserved
 loop-i-preserved c = search (rules, strips)
 

@@ -2,14 +2,11 @@
 -- Invariant: the first i lengths are written, and the next one is n.
 use Rattle.path_parts.proofs.ScanLaws.{Ahead}
 use mathlib.Core.Path.{◌≡◌}
-use Prim.Native.Nat.{◌-◌, ◌≤◌}
+use Prim.Native.Nat.{◌≤◌}
 use lib.ListN.{length}
 use lib.Seq.{paste}
 use Rattle.path_parts.specs.Parent.{ancestor_lens}
 use Rattle.path_parts.proofs.write_ancestors.Given as goal
 
 abbrev pub invariant-loop-i : goal.invariant-loop-i
-invariant-loop-i l = (l.i ≤ l.count) × (l.n ≤ length l.path) × Ahead l.path l.i l.n × (length l.out ≡ length l.initial.out) × (l.out ≡ paste l.initial.out 0 (ancestor_lens l.path) l.i)
-
-abbrev pub decreases-loop-i : goal.decreases-loop-i
-decreases-loop-i l = l.count - l.i
+invariant-loop-i l = (l.n ≤ length l.path) × Ahead l.path l.i l.n × (l.out ≡ paste l.initial.out 0 (ancestor_lens l.path) l.i)

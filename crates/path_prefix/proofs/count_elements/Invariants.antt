@@ -1,12 +1,9 @@
 -- The loop. n elements begin before index i; the rest has the others.
 use mathlib.Core.Path.{◌≡◌}
-use Prim.Native.Nat.{◌+◌, ◌≤◌, ◌-◌}
-use lib.ListN.{length, drop}
+use Prim.Native.Nat.{◌+◌, ◌≤◌}
+use lib.ListN.{drop}
 use Rattle.path_prefix.specs.Elements.{count_elements}
 use Rattle.path_prefix.proofs.count_elements.Given as goal
 
 abbrev pub invariant-loop-i : goal.invariant-loop-i
-invariant-loop-i l = (l.i ≤ length l.text) × (l.n ≤ l.i) × (count_elements l.selections l.text ≡ l.n + count_elements l.selections (drop l.i l.text))
-
-abbrev pub decreases-loop-i : goal.decreases-loop-i
-decreases-loop-i l = length l.text - l.i
+invariant-loop-i l = (l.n ≤ l.i) × (count_elements l.selections l.text ≡ l.n + count_elements l.selections (drop l.i l.text))

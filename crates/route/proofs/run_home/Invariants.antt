@@ -14,8 +14,5 @@ use Rattle.route.proofs.run_home.Given as goal
 
 abbrev pub invariant-loop-k : goal.invariant-loop-k
 invariant-loop-k l = let s = lent_route l.store l.places l.legs l.n in
-    (l.k ≤ l.n) × (l.at ≤ 255) × (length l.here ≡ 255) × (fold_legs (leg_fast true) (reverse (maps_in s l.k)) (take l.at l.here) ≡ run_route_fast true s l.n (take l.len l.initial.here))
+    (l.at ≤ 255) × (length l.here ≡ 255) × (fold_legs (leg_fast true) (reverse (maps_in s l.k)) (take l.at l.here) ≡ run_route_fast true s l.n (take l.len l.initial.here))
     × (unaltered_length (leg_fast true) (plain_rest true) (reverse (maps_in s l.k)) l.unaltered (take l.at l.here) ≡ unaltered_fast true s l.n l.len (take l.len l.initial.here))
-
-abbrev pub decreases-loop-k : goal.decreases-loop-k
-decreases-loop-k l = l.k

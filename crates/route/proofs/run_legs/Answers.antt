@@ -17,15 +17,15 @@ returns-in_default c =
 pub slice_bounds-made-end : goal.slice_bounds-made-end
 slice_bounds-made-end c =
     run_over_inside _ _ _ _ _ _ c.map_leg-c.ensures _ c.reply_of-reply.ensures _ c.carried_rest-unaltered.ensures _
-    c.in-Written.is
+    c.in-Ok.is
 
 pub slice_bounds-write_at-end : goal.slice_bounds-write_at-end
 slice_bounds-write_at-end c =
     part_size _ _
     (run_over_inside _ _ _ _ _ _ c.map_leg-c.ensures _ c.reply_of-reply.ensures _ c.carried_rest-unaltered.ensures _
-    c.in-Written.is)
+    c.in-Ok.is)
 
 pub returns : goal.returns
 returns c =
     run_over_written _ _ _ _ _ _ c.map_leg-c.ensures _ c.reply_of-reply.ensures _ c.carried_rest-unaltered.ensures _
-    c.in-Written.is _ _ c.requires.1 c.write_at.ensures
+    c.in-Ok.is _ _ c.requires.1 c.write_at.ensures

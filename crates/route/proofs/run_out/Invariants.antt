@@ -6,14 +6,11 @@ use Rattle.route_spec.specs.Route.{fold_legs}
 use Rattle.route_spec.specs.Rest.{unaltered_length}
 use Rattle.refusal.specs.Outcome.{path}
 use lib.ListN.{length, take}
-use Prim.Native.Nat.{◌-◌, ◌≤◌}
+use Prim.Native.Nat.{◌≤◌}
 use mathlib.Core.Bool.{false}
 use mathlib.Core.Path.{◌≡◌}
 use Rattle.route.proofs.run_out.Given as goal
 
 abbrev pub invariant-loop-k : goal.invariant-loop-k
-invariant-loop-k l = (l.k ≤ l.n) × (l.at ≤ 255) × (length l.here ≡ 255) × (fold_legs (leg_fast false) (maps_in (lent_route l.store l.places l.legs l.n) l.k) (take l.len l.initial.here) ≡ path (take l.at l.here))
+invariant-loop-k l = (l.at ≤ 255) × (length l.here ≡ 255) × (fold_legs (leg_fast false) (maps_in (lent_route l.store l.places l.legs l.n) l.k) (take l.len l.initial.here) ≡ path (take l.at l.here))
     × (unaltered_length (leg_fast false) (plain_rest false) (maps_in (lent_route l.store l.places l.legs l.n) l.k) l.len (take l.len l.initial.here) ≡ l.unaltered)
-
-abbrev pub decreases-loop-k : goal.decreases-loop-k
-decreases-loop-k l = l.n - l.k

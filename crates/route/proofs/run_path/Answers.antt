@@ -14,21 +14,21 @@ returns-in_default c =
 pub slice_bounds-here-end : goal.slice_bounds-here-end
 slice_bounds-here-end c =
     run_inside _ _ _ _ _ c.enters_stripped-stripped.ensures _ _ c.enter_route-len.ensures _ _
-    c.run_direction-run.ensures _ c.in-Written.is
+    c.run_direction-run.ensures _ c.in-Ok.is
 
 pub slice_bounds-write_at-end : goal.slice_bounds-write_at-end
 slice_bounds-write_at-end c =
     part_size _ _
     (run_inside _ _ _ _ _ c.enters_stripped-stripped.ensures _ _ c.enter_route-len.ensures _ _
-    c.run_direction-run.ensures _ c.in-Written.is)
+    c.run_direction-run.ensures _ c.in-Ok.is)
 
 pub rest_at_end-requires : goal.rest_at_end-requires
 rest_at_end-requires c =
     unaltered_inside _ _ _ _ _ c.enters_stripped-stripped.ensures _ _ c.enter_route-len.ensures _ _
-    c.run_direction-run.ensures _ c.in-Written.is (search rules)
+    c.run_direction-run.ensures _ c.in-Ok.is (search rules)
 
 pub returns : goal.returns
 returns c =
     run_written _ _ _ _ _ c.enters_stripped-stripped.ensures _ _ c.enter_route-len.ensures _ _
-    c.run_direction-run.ensures _ c.in-Written.is (search rules) (search rules) _ c.rest_at_end.ensures _
+    c.run_direction-run.ensures _ c.in-Ok.is (search rules) (search rules) _ c.rest_at_end.ensures _
     c.with_rest-2.ensures _ _ c.requires.1 c.write_at.ensures

@@ -1,12 +1,11 @@
-use borrow.Author.Rules.{rules}
 use Rattle.route_legs.proofs.ValidateBranches.{lists_none, lists_on, lists_end}
 use Rattle.route_legs.proofs.validate_leg_lists.Goals as goal
 
 pub loop-k-init : goal.loop-k-init
-loop-k-init c = (search rules, lists_none _ _ _ _)
+loop-k-init c = lists_none _ _ _ _
 
 pub loop-k-preserved : goal.loop-k-preserved
-loop-k-preserved c = (search rules, lists_on _ _ _ _ _ _ _ _ c.loop-k.invariant.1 c.validate_leg.ensures c.first_refusal-q.ensures)
+loop-k-preserved c = lists_on _ _ _ _ _ _ _ _ c.loop-k.invariant c.validate_leg.ensures c.first_refusal-q.ensures
 
 pub returns : goal.returns
-returns c = lists_end _ _ _ _ _ _ c.loop-k-test.false c.loop-k.invariant.0 c.loop-k.invariant.1
+returns c = lists_end _ _ _ _ _ _ c.loop-k-test.false c.loop-k.auto.k-end c.loop-k.invariant

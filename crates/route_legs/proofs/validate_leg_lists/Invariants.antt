@@ -1,5 +1,4 @@
 -- The loop. The result so far is that of the lists of the first k legs.
-use Prim.Native.Nat.{◌≤◌, ◌-◌}
 use mathlib.Core.Path.{◌≡◌}
 use mathlib.Core.List.{[]}
 use Rattle.validate.specs.Validate.{validate_call}
@@ -7,7 +6,4 @@ use Rattle.route_legs.specs.LentRoute.{lent_route, lists_in}
 use Rattle.route_legs.proofs.validate_leg_lists.Given as goal
 
 abbrev pub invariant-loop-k : goal.invariant-loop-k
-invariant-loop-k l = (l.k ≤ l.n) × (l.q ≡ validate_call (lists_in (lent_route l.store l.places l.legs l.n) l.k) [] [])
-
-abbrev pub decreases-loop-k : goal.decreases-loop-k
-decreases-loop-k l = l.n - l.k
+invariant-loop-k l = l.q ≡ validate_call (lists_in (lent_route l.store l.places l.legs l.n) l.k) [] []

@@ -1,5 +1,5 @@
 -- The loop. The entries of the first i pairs are copied.
-use Prim.Native.Nat.{ℕ, ◌≤◌, ◌-◌}
+use Prim.Native.Nat.{ℕ}
 use mathlib.Core.Path.{◌≡◌}
 use lib.ListN.{length}
 use mathlib.Core.Bool.{true}
@@ -7,7 +7,4 @@ use Rattle.pair_list_write.specs.Select.{indices_where, written_entries}
 use Rattle.route_maps.proofs.copy_pairs.Given as goal
 
 abbrev pub invariant-loop-i : goal.invariant-loop-i
-invariant-loop-i l = (l.i ≤ l.n) × (l.block ≡ written_entries l.places (indices_where (λ (j : ℕ). true) l.i) l.initial.block) × (length l.block ≡ length l.initial.block)
-
-abbrev pub decreases-loop-i : goal.decreases-loop-i
-decreases-loop-i l = l.n - l.i
+invariant-loop-i l = (l.block ≡ written_entries l.places (indices_where (λ (j : ℕ). true) l.i) l.initial.block) × (length l.block ≡ length l.initial.block)

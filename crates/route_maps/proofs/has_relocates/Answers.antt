@@ -1,15 +1,16 @@
-use borrow.Author.Rules.{rules}
-use Rattle.route_maps.proofs.PreparedLaws.{relocates_none, relocates_found, relocates_on, relocates_end}
+use Rattle.std.proofs.Common.{rules, refl, ◌≡◌, true, false, arith, ℕ}
+use Rattle.std.proofs.lemmas.Iterator.{cases_from_any, YieldsList-from_range}
+use borrow.Author.Tests.{tests, le-leb, lt-leb}
+use lib.Dec.{leb}
+use Rattle.relocates.proofs.StatusBranches.{some_in_range}
+use Rattle.route_legs.specs.LentRoute.{kind_at}
+use Rattle.route_maps.specs.Prepared.{has_relocates}
 use Rattle.route_maps.proofs.has_relocates.Goals as goal
 
-pub loop-k-init : goal.loop-k-init
-loop-k-init c = (search rules, relocates_none _)
-
-pub returns-then-kind_at-ge2 : goal.returns-then-kind_at-ge2
-returns-then-kind_at-ge2 c = relocates_found _ _ _ c.kind_at.ensures _ c.loop-k-test.true c.if-kind_at-ge2.true
-
-pub loop-k-preserved : goal.loop-k-preserved
-loop-k-preserved c = (search rules, relocates_on _ _ _ c.kind_at.ensures c.loop-k.invariant.1 c.if-kind_at-ge2.false)
-
 pub returns : goal.returns
-returns c = relocates_end _ _ _ c.loop-k-test.false c.loop-k.invariant.0 c.loop-k.invariant.1
+unfolding has_relocates
+returns c =
+    let passes = λ (k : ℕ). leb 2 (kind_at c.args.legs.now k) in
+    some_in_range passes c.args.n _
+    (cases_from_any _ _ _ (λ k. passes k ≡ true) (λ k. passes k ≡ false) c.any.ensures.ran (YieldsList-from_range 0 c.args.n c.args.n refl (omega arith))
+    (λ x q k. search (rules, tests, le-leb)) (λ x q k. search (rules, tests, lt-leb)))

@@ -2,12 +2,8 @@
 use Rattle.route_maps.specs.Prepare.{prepared_places, prepared_table}
 use Rattle.route_legs.specs.LentRoute.{lent_route}
 use lib.ListN.{length}
-use Prim.Native.Nat.{◌≤◌, ◌-◌}
 use mathlib.Core.Path.{◌≡◌}
 use Rattle.route_maps.proofs.prepare_legs.Given as goal
 
 abbrev pub invariant-loop-k : goal.invariant-loop-k
-invariant-loop-k l = (l.k ≤ l.n) × (length l.made ≡ 4096) × (length l.table ≡ 48) × (l.made ≡ prepared_places (lent_route l.store l.places l.legs l.n) l.k l.initial.made) × (l.table ≡ prepared_table (lent_route l.store l.places l.legs l.n) l.k l.initial.table)
-
-abbrev pub decreases-loop-k : goal.decreases-loop-k
-decreases-loop-k l = l.n - l.k
+invariant-loop-k l = (length l.made ≡ 4096) × (length l.table ≡ 48) × (l.made ≡ prepared_places (lent_route l.store l.places l.legs l.n) l.k l.initial.made) × (l.table ≡ prepared_table (lent_route l.store l.places l.legs l.n) l.k l.initial.table)

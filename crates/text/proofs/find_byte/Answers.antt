@@ -1,30 +1,13 @@
-use borrow.Author.Rules.{rules}
-use Rattle.text.proofs.UntilLaws.{finding}
+use Rattle.std.proofs.Common.{rules, tests}
+use Rattle.std.proofs.lemmas.Iterator.{YieldsList-from_slice}
+use Rattle.std.proofs.lemmas.Iterator.Search.{position_from_yields_List}
+use lib.Dec.{eqb}
+use Rattle.text.proofs.UntilLaws.{find_none, find_position}
 use Rattle.text.proofs.find_byte.Goals as goal
 
-pub lacks_byte-requires : goal.lacks_byte-requires
-lacks_byte-requires c = search (rules, finding)
-
 pub returns-then-lacks_byte : goal.returns-then-lacks_byte
-returns-then-lacks_byte c = search (rules, finding)
-
-pub loop-i-init : goal.loop-i-init
-loop-i-init c = search (rules, finding)
-
-pub bounds-text-i : goal.bounds-text-i
-bounds-text-i c = search (rules, finding)
-
-pub returns-then-text-i : goal.returns-then-text-i
-returns-then-text-i c = search (rules, finding)
-
-pub overflow_add-i : goal.overflow_add-i
-overflow_add-i c = search (rules, finding)
-
-pub loop-i-smaller : goal.loop-i-smaller
-loop-i-smaller c = search (rules, finding)
-
-pub loop-i-preserved : goal.loop-i-preserved
-loop-i-preserved c = search (rules, finding)
+returns-then-lacks_byte c = find_none _ _ _ c.lacks_byte.ensures c.if-lacks_byte.true
 
 pub returns : goal.returns
-returns c = search (rules, finding)
+returns c =
+    find_position _ _ _ _ (position_from_yields_List (λ x. eqb x c.args.b) _ _ c.position.result c.position.ensures.ran (YieldsList-from_slice c.args.text.now cc) (λ x b q k. search (rules, tests))) c.unwrap_or.ensures

@@ -1,9 +1,6 @@
-use Rattle.text.proofs.TextLaws.{texts}
-use borrow.Author.Rules.{rules}
+use Rattle.std.proofs.Common.{◌∙◌, refl}
+use Rattle.text.proofs.TextLaws.{last_get}
 use Rattle.text.proofs.last_is.Goals as goal
 
-pub returns-then-n-eq0 : goal.returns-then-n-eq0
-returns-then-n-eq0 c = search (rules, texts)
-
 pub returns : goal.returns
-returns c = search (rules, texts)
+returns c = c.eq.ensures ∙ last_get c.args.b c.args.text.now c.last.result _ refl c.last.ensures.value

@@ -1,36 +1,13 @@
-use Rattle.text.proofs.WriteLaws.{puts}
-use borrow.Author.Rules.{rules}
+use Rattle.text.proofs.WriteLaws.{put_part, put_outside, put_over}
 use Rattle.text.proofs.write_at.Goals as goal
+use Rattle.text.proofs.write_at.Goals.{else-at-out-via-then-at-out+else-text-out, else-at-out-via-else-at-out}
 
-pub returns-then-out-at : goal.returns-then-out-at
-returns-then-out-at c = search (rules, puts)
+pub returns-then-text-out : goal.returns-then-text-out
+returns-then-text-out c = put_part _ _ _ _ c.if-at-out.true c.if-text-out.true c.copy_from_slice.ensures.after
 
-pub overflow_sub-out : goal.overflow_sub-out
-overflow_sub-out c = search (rules, puts)
-
-pub returns-then-out-at-2 : goal.returns-then-out-at-2
-returns-then-out-at-2 c = search (rules, puts)
-
-pub loop-i-init : goal.loop-i-init
-loop-i-init c = search (rules, puts)
-
-pub bounds-text-i : goal.bounds-text-i
-bounds-text-i c = search (rules, puts)
-
-pub overflow_add-out : goal.overflow_add-out
-overflow_add-out c = search (rules, puts)
-
-pub bounds-out-at : goal.bounds-out-at
-bounds-out-at c = search (rules, puts)
-
-pub overflow_add-i : goal.overflow_add-i
-overflow_add-i c = search (rules, puts)
-
-pub loop-i-smaller : goal.loop-i-smaller
-loop-i-smaller c = search (rules, puts)
-
-pub loop-i-preserved : goal.loop-i-preserved
-loop-i-preserved c = search (rules, puts)
-
-pub returns : goal.returns
-returns c = search (rules, puts)
+pub returns-else-at-out : goal.returns-else-at-out
+returns-else-at-out c =
+    elim c.else-at-out.branch [
+      | else-at-out-via-then-at-out+else-text-out w ↦ put_over _ _ _ w.if-at-out.true w.if-text-out.false
+      | else-at-out-via-else-at-out w ↦ put_outside _ _ _ w.if-at-out.false
+    ]

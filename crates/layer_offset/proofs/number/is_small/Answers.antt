@@ -1,11 +1,10 @@
-use lib.Ieee.{of_bits}
-use Rattle.layer_offset.proofs.NumberLaws.{above_lower, not_above_lower}
+use Rattle.std.proofs.Common.{ap, ◌∙◌}
+use lib.Ieee.{of_bits, lt}
+use Rattle.std.specs.Prelude.{Float}
+use Rattle.layer_offset.specs.Number.{is_small, tolerance}
+use Rattle.layer_offset.proofs.NumberLaws.{absolute_is}
 use Rattle.layer_offset.proofs.number.is_small.Goals as goal
 
-pub returns-then-x : goal.returns-then-x
-unfolding of_bits
-returns-then-x c = above_lower _ c.if-x.true
-
-pub returns-else-x : goal.returns-else-x
-unfolding of_bits
-returns-else-x c = not_above_lower _ c.if-x.false
+pub returns : goal.returns
+unfolding is_small of_bits
+returns c = ap (λ (y : Float). lt y tolerance) (c.abs.ensures.value ∙ absolute_is _)

@@ -1,5 +1,4 @@
 use Rattle.relocates.proofs.ActiveBranches.{active_left, active_kept}
-use Rattle.pair_list_write.proofs.copy_entry.Reads as copy-entry-reads
 use Rattle.text.proofs.Clauses.{value_kept_after}
 use Rattle.relocates.proofs.status.keep_active.Goals as goal
 
