@@ -30,19 +30,19 @@ pub record WrongNames : Type 0 where
   pub ascii_after_selection : path_new_call (utf8 "/A{v=p}É") ≢ Err Illegal
   pub ascii_target : path_new_call (utf8 "/A.r[/É]") ≢ Err Illegal
   -- A variant may have any character of a name.
-  pub sel_widened : path_new_call (utf8 "/A{v=é}") ≢ (Ok tt)
+  pub sel_widened : path_new_call (utf8 "/A{v=é}") ≢ Ok tt
   -- A control or white space is a character like any other: the ends of each range of the list.
-  pub control_80 : path_new_call (named 0x80) ≢ (Ok tt)
-  pub control_9_f : path_new_call (named 0x9F) ≢ (Ok tt)
-  pub no_break_space : path_new_call (named 0xA0) ≢ (Ok tt)
-  pub ogham_space : path_new_call (named 0x1680) ≢ (Ok tt)
-  pub en_quad : path_new_call (named 0x2000) ≢ (Ok tt)
-  pub hair_space : path_new_call (named 0x200A) ≢ (Ok tt)
-  pub line_separator : path_new_call (named 0x2028) ≢ (Ok tt)
-  pub paragraph_separator : path_new_call (named 0x2029) ≢ (Ok tt)
-  pub narrow_space : path_new_call (named 0x202F) ≢ (Ok tt)
-  pub mathematical_space : path_new_call (named 0x205F) ≢ (Ok tt)
-  pub ideographic_space : path_new_call (named 0x3000) ≢ (Ok tt)
+  pub control_80 : path_new_call (named 0x80) ≢ Ok tt
+  pub control_9_f : path_new_call (named 0x9F) ≢ Ok tt
+  pub no_break_space : path_new_call (named 0xA0) ≢ Ok tt
+  pub ogham_space : path_new_call (named 0x1680) ≢ Ok tt
+  pub en_quad : path_new_call (named 0x2000) ≢ Ok tt
+  pub hair_space : path_new_call (named 0x200A) ≢ Ok tt
+  pub line_separator : path_new_call (named 0x2028) ≢ Ok tt
+  pub paragraph_separator : path_new_call (named 0x2029) ≢ Ok tt
+  pub narrow_space : path_new_call (named 0x202F) ≢ Ok tt
+  pub mathematical_space : path_new_call (named 0x205F) ≢ Ok tt
+  pub ideographic_space : path_new_call (named 0x3000) ≢ Ok tt
   -- The neighbours of the list, an accent that stands alone, a character without width, and the last character of all are refused.
   pub above_control : path_new_call (named 0xA1) ≢ Err Illegal
   pub zero_width_space : path_new_call (named 0x200B) ≢ Err Illegal
@@ -53,21 +53,21 @@ pub record WrongNames : Type 0 where
   pub last_character : path_new_call (named 0x10FFFF) ≢ Err Illegal
   -- Malformed UTF-8 is taken: a surrogate; the overlong forms of `/` and of `é`; a number above U+10FFFF; a byte that continues nothing; a
   -- character cut off by the end, by a slash, by another character.
-  pub surrogate : path_new_call (after_a (0xED ∷ 0xA0 ∷ 0x80 ∷ [])) ≢ (Ok tt)
-  pub last_surrogate : path_new_call (after_a (0xED ∷ 0xBF ∷ 0xBF ∷ [])) ≢ (Ok tt)
-  pub overlong_slash : path_new_call (after_a (0xC0 ∷ 0xAF ∷ upper_a ∷ [])) ≢ (Ok tt)
-  pub overlong_slash_three : path_new_call (after_a (0xE0 ∷ 0x80 ∷ 0xAF ∷ upper_a ∷ [])) ≢ (Ok tt)
-  pub overlong_letter : path_new_call (after_a (0xE0 ∷ 0x83 ∷ 0xA9 ∷ [])) ≢ (Ok tt)
-  pub overlong_four : path_new_call (after_a (0xF0 ∷ 0x8F ∷ 0xBF ∷ 0xBF ∷ [])) ≢ (Ok tt)
-  pub above_all : path_new_call (after_a (0xF4 ∷ 0x90 ∷ 0x80 ∷ 0x80 ∷ [])) ≢ (Ok tt)
-  pub stray : path_new_call (after_a (0x80 ∷ [])) ≢ (Ok tt)
-  pub no_first_byte : path_new_call (after_a (0xFF ∷ [])) ≢ (Ok tt)
-  pub cut_off : path_new_call (after_a (0xC3 ∷ [])) ≢ (Ok tt)
-  pub cut_by_slash : path_new_call (after_a (0xE2 ∷ 0x82 ∷ slash ∷ upper_a ∷ [])) ≢ (Ok tt)
-  pub cut_by_character : path_new_call (after_a (0xC3 ∷ 0xC3 ∷ 0xA9 ∷ [])) ≢ (Ok tt)
+  pub surrogate : path_new_call (after_a (0xED ∷ 0xA0 ∷ 0x80 ∷ [])) ≢ Ok tt
+  pub last_surrogate : path_new_call (after_a (0xED ∷ 0xBF ∷ 0xBF ∷ [])) ≢ Ok tt
+  pub overlong_slash : path_new_call (after_a (0xC0 ∷ 0xAF ∷ upper_a ∷ [])) ≢ Ok tt
+  pub overlong_slash_three : path_new_call (after_a (0xE0 ∷ 0x80 ∷ 0xAF ∷ upper_a ∷ [])) ≢ Ok tt
+  pub overlong_letter : path_new_call (after_a (0xE0 ∷ 0x83 ∷ 0xA9 ∷ [])) ≢ Ok tt
+  pub overlong_four : path_new_call (after_a (0xF0 ∷ 0x8F ∷ 0xBF ∷ 0xBF ∷ [])) ≢ Ok tt
+  pub above_all : path_new_call (after_a (0xF4 ∷ 0x90 ∷ 0x80 ∷ 0x80 ∷ [])) ≢ Ok tt
+  pub stray : path_new_call (after_a (0x80 ∷ [])) ≢ Ok tt
+  pub no_first_byte : path_new_call (after_a (0xFF ∷ [])) ≢ Ok tt
+  pub cut_off : path_new_call (after_a (0xC3 ∷ [])) ≢ Ok tt
+  pub cut_by_slash : path_new_call (after_a (0xE2 ∷ 0x82 ∷ slash ∷ upper_a ∷ [])) ≢ Ok tt
+  pub cut_by_character : path_new_call (after_a (0xC3 ∷ 0xC3 ∷ 0xA9 ∷ [])) ≢ Ok tt
   -- Question 2 before question 1; the limit counts characters; the limit counts a character of two bytes twice and more.
   pub malformed_first : path_new_call (replicate 256 0xFF) ≢ Err Illegal
-  pub limit_of_characters : path_new_call (slash ∷ encode_all (replicate 128 0xE9)) ≢ (Ok tt)
+  pub limit_of_characters : path_new_call (slash ∷ encode_all (replicate 128 0xE9)) ≢ Ok tt
   pub limit_too_low : path_new_call (slash ∷ encode_all (replicate 127 0xE9)) ≢ Err TooLong
   -- `is_end`: ends are ASCII; a malformed text is an end.
   pub ascii_end : is_end_call (utf8 "/Széll/Kálmán") ≢ Ok false

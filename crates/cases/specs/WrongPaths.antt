@@ -10,12 +10,12 @@ use Rattle.path_derive.specs.Calls.{replace_prefix_call, parent_call, prim_path_
 
 pub record WrongPaths : Type 0 where
   -- `new` accepts every text; refuses every text; puts question 2 before question 1.
-  pub new_accepts_all : path_new_call (bytes "A") ≢ (Ok tt)
+  pub new_accepts_all : path_new_call (bytes "A") ≢ Ok tt
   pub new_refuses_all : path_new_call (bytes "/A") ≢ Err Illegal
   pub new_legal_first : path_new_call (replicate 256 65) ≢ Err Illegal
   -- A digit begins a name; a slash follows a selection; a name may not follow one.
-  pub digit_begins_name : path_new_call (bytes "/1") ≢ (Ok tt)
-  pub slash_after_selection : path_new_call (bytes "/A{v=p}/B") ≢ (Ok tt)
+  pub digit_begins_name : path_new_call (bytes "/1") ≢ Ok tt
+  pub slash_after_selection : path_new_call (bytes "/A{v=p}/B") ≢ Ok tt
   pub no_name_after_selection : path_new_call (bytes "/A{v=p}B") ≢ Err Illegal
   -- `is_end`: a property or a selection is an end; nothing is one.
   pub property_is_end : is_end_call (bytes "/A.b") ≢ Ok true

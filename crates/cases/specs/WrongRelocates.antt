@@ -55,5 +55,5 @@ pub record WrongRelocates : Type 0 where
   -- are no paths.
   pub batch_room_first : validate_map_all (store_of illegal_list) (places_of illegal_list) (unmarked_header illegal_list) 1 (0 ∷ 0 ∷ []) [] [] ≢ Err NoRoom
   pub batch_count_is_5 : validate_map_all (store_of a_to_b_list) (places_of a_to_b_list) (unmarked_header a_to_b_list) 1 [] [] [] ≢ Err NoRoom
-  pub batch_of_none : validate_map_all (store_of illegal_list) (places_of illegal_list) (unmarked_header illegal_list) 0 [] [] [] ≢ (Ok tt)
+  pub batch_of_none : validate_map_all (store_of illegal_list) (places_of illegal_list) (unmarked_header illegal_list) 0 [] [] [] ≢ Ok tt
   pub batch_routed_first : validate_route_all (lent_route (store_of illegal_list) (places_of illegal_list) (0 ∷ 0 ∷ 1 ∷ []) 1) 1 (0 ∷ 0 ∷ []) [] [] ≢ Err NoRoom

@@ -22,14 +22,14 @@ pub record WrongTargets : Type 0 where
   pub target_refused : path_new_call (bytes "/L/S.next[/L/T]") ≢ Err Illegal
   pub root_refused : path_new_call (bytes "/A.r[/]") ≢ Err Illegal
   pub fourth_bracket_refused : path_new_call (bytes "/A.r[/B.s[/C.t[/D.u[/E]]]]") ≢ Err Illegal
-  pub fifth_bracket : path_new_call (bytes "/A.r[/B.s[/C.t[/D.u[/E.v[/F]]]]]") ≢ (Ok tt)
-  pub bracket_after_selection : path_new_call (bytes "/A{v=p}[/C]") ≢ (Ok tt)
-  pub bracket_after_name : path_new_call (bytes "/A[/C]") ≢ (Ok tt)
-  pub nothing_in_brackets : path_new_call (bytes "/A.r[]") ≢ (Ok tt)
-  pub relative_in_brackets : path_new_call (bytes "/A.r[T]") ≢ (Ok tt)
-  pub property_after_brackets : path_new_call (bytes "/A.r[/T].x") ≢ (Ok tt)
-  pub second_brackets : path_new_call (bytes "/A.r[/T][/U]") ≢ (Ok tt)
-  pub unclosed : path_new_call (bytes "/A.r[/T") ≢ (Ok tt)
+  pub fifth_bracket : path_new_call (bytes "/A.r[/B.s[/C.t[/D.u[/E.v[/F]]]]]") ≢ Ok tt
+  pub bracket_after_selection : path_new_call (bytes "/A{v=p}[/C]") ≢ Ok tt
+  pub bracket_after_name : path_new_call (bytes "/A[/C]") ≢ Ok tt
+  pub nothing_in_brackets : path_new_call (bytes "/A.r[]") ≢ Ok tt
+  pub relative_in_brackets : path_new_call (bytes "/A.r[T]") ≢ Ok tt
+  pub property_after_brackets : path_new_call (bytes "/A.r[/T].x") ≢ Ok tt
+  pub second_brackets : path_new_call (bytes "/A.r[/T][/U]") ≢ Ok tt
+  pub unclosed : path_new_call (bytes "/A.r[/T") ≢ Ok tt
   -- `is_end`: a path with a target is an end.
   pub target_is_end : is_end_call (bytes "/A.r[/T]") ≢ Ok true
   -- `has_variant_selection`, `element_count`, `prim_element_count`: selections and names inside brackets count.
