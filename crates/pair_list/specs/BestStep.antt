@@ -3,7 +3,7 @@ use Rattle.std.specs.Option.{option_map}
 use Rattle.std.specs.Prelude.{ℕ, Bool, true, cond, ◌&&◌, leb, Option, Some, None}
 use Rattle.pair_list.specs.Best.{best_index}
 
--- The best so far, as the code keeps it: nothing yet, or an index and its weight.
+-- The best so far, given whether there is one, its index and its weight.
 abbrev pub best_kept : Bool → ℕ → ℕ → Option (ℕ × ℕ)
 best_kept found at weight = cond found (Some (at, weight)) None
 

@@ -14,7 +14,7 @@ unfoldable pub list_fits_buffers : List Pair → Text → List ℕ → Bool
 unfolding end_bytes
 list_fits_buffers l out slots = leb (end_bytes l) (length out) && leb (length l) (length slots / 4)
 
--- The result of writing a list: the number of pairs, or `Over` if a buffer is too short.
+-- The result of writing a list: the number of pairs, or `None` if a buffer is too short.
 unfoldable pub write_list_reply : List Pair → Text → List ℕ → Option ℕ
 unfolding list_fits_buffers
 write_list_reply l out slots = cond (list_fits_buffers l out slots) (Some (length l)) None
@@ -34,7 +34,7 @@ unfoldable pub append_fits_buffers : ℕ → List Pair → Text → List ℕ →
 unfolding end_bytes
 append_fits_buffers at l out slots = leb (at + end_bytes l) (length out) && leb (length l) (length slots / 4)
 
--- The result of writing a list from byte `at`: the number of pairs, or `Over` if a buffer is too short.
+-- The result of writing a list from byte `at`: the number of pairs, or `None` if a buffer is too short.
 unfoldable pub append_list_reply : ℕ → List Pair → Text → List ℕ → Option ℕ
 unfolding append_fits_buffers
 append_list_reply at l out slots = cond (append_fits_buffers at l out slots) (Some (length l)) None

@@ -2,13 +2,24 @@
 use mathlib.Core.Path.{◌≡◌, refl}
 use mathlib.Core.Bool.{Bool, true, false, cond, ◌&&◌, ◌||◌, false≢true}
 use mathlib.Core.List.{[], ◌∷◌, ◌++◌}
-use Prim.Native.Nat.{ℕ, ◌+◌, ◌≤◌}
+use Prim.Native.Nat.{ℕ, suc, ◌+◌, ◌≤◌}
 use native.Mathlib.Omega.{arith}
 use lib.Dec.{eqb}
+use lib.ListN.{length}
 use Rattle.text.specs.Text.{Text, ends_with_byte}
 use Rattle.path_grammar.specs.Legal.{is_name_byte, is_root, is_end}
 use Rattle.path_grammar.proofs.LegalLaws.{legal_last, end_legal}
 use Rattle.path_prefix.specs.Elements.{starts_element, count_elements}
+
+-- A text has no more elements than bytes.
+pub count_short : (f : Bool) (s : Text) → count_elements f s ≤ length s
+unfolding count_elements
+count_short f [] = omega arith
+count_short f (a ∷ s) = go (starts_element f a s) (count_short f s)
+  where
+    go : (b : Bool) → count_elements f s ≤ length s → cond b 1 0 + count_elements f s ≤ suc (length s)
+    go true ih = omega arith
+    go false ih = omega arith
 
 -- A text has no fewer elements when more bytes follow.
 begins_more : (f : Bool) (a : ℕ) (s r : Text) → starts_element f a s ≡ true → starts_element f a (s ++ r) ≡ true

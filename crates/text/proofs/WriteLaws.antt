@@ -46,6 +46,8 @@ pub put_over : (d s : Text) (at : ℕ) → at ≤ length d → length d - at < l
 unfolding written_if_fits
 put_over d s at g h = rw (lt-leb (at + length s) (length d) (omega arith))
 
+pub ruleset puts = (put_begin, put_on, put_length, put_end, put_outside, put_over)
+
 -- A text placed at the beginning of a buffer.
 pub placed_first : (t out : Text) → length t ≤ length out → written_if_fits 0 t out ≡ written t out
 unfolding written_if_fits

@@ -71,7 +71,7 @@ written t out = t ++ drop (length t) out
 abbrev pub written_at : ℕ → Text → Text → Text
 written_at at t out = take at out ++ (t ++ drop (at + length t) out)
 
--- The result of writing a text over the beginning of a buffer: the length written, or `Over` if the text does not fit.
+-- The result of writing a text over the beginning of a buffer: the length written, or `None` if the text does not fit.
 unfoldable pub fit_of : Text → Text → Option ℕ
 fit_of t out = cond (leb (length t) (length out)) (Some (length t)) None
 

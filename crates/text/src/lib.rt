@@ -61,11 +61,14 @@ pub fn find_byte(text: &[u8], b: u8) -> usize
     text.iter().position(|a| *a == b).unwrap_or(text.len())
 }
 
-// Copies the text into the buffer from index `at` if it fits; otherwise writes nothing.
+// Copies the text into the buffer from index `at` if it fits; otherwise writes nothing. Not `copy_from_slice`, which
+// calls memmove: a program in C that links the library would have to supply it, besides memcpy and memset.
 pub fn write_at(text: &[u8], at: usize, out: &mut [u8])
     ensures { out.new ≡ written_if_fits at text.now out.old }
 {
     if at <= out.len() && text.len() <= out.len() - at {
-        out[at..at + text.len()].copy_from_slice(text);
+        for i in 0..text.len() {
+            out[at + i] = text[i];
+        }
     }
 }

@@ -1,9 +1,13 @@
-use Rattle.text.proofs.WriteLaws.{put_part, put_outside, put_over}
+use Rattle.text.proofs.WriteLaws.{puts, put_outside, put_over}
+use borrow.Author.Rules.{rules}
 use Rattle.text.proofs.write_at.Goals as goal
 use Rattle.text.proofs.write_at.Goals.{else-at-out-via-then-at-out+else-text-out, else-at-out-via-else-at-out}
 
-pub returns-then-text-out : goal.returns-then-text-out
-returns-then-text-out c = put_part _ _ _ _ c.if-at-out.true c.if-text-out.true c.copy_from_slice.ensures.after
+pub loop-i-preserved : goal.loop-i-preserved
+loop-i-preserved c = search (rules, puts)
+
+pub returns-after-loop-i : goal.returns-after-loop-i
+returns-after-loop-i c = search (rules, puts)
 
 pub returns-else-at-out : goal.returns-else-at-out
 returns-else-at-out c =
