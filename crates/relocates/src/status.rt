@@ -1,8 +1,8 @@
 // The analysis of a relocate list. Every public function is defined for all byte slices and all indices.
-ghost use Rattle.std.specs.Prelude.{◌≡◌, not, cond, ◌&&◌, ◌+◌, ◌≤◌, ◌<◌, eqb, length};
+ghost use Rattle.std.specs.Prelude.{false, true, ◌≡◌, not, cond, ◌&&◌, ◌+◌, ◌≤◌, ◌<◌, eqb, length};
 ghost use Rattle.text.specs.Text.{is_nil, equal, written};
 ghost use Rattle.path_prefix.specs.Prefix.{has_prefix};
-ghost use Rattle.pair_list.specs.Places.{pair_in, pairs_in};
+ghost use Rattle.pair_list.specs.Places.{key_at, pair_in, pairs_in};
 ghost use Rattle.pair_list_write.specs.Lists.{copy_entry};
 ghost use Rattle.pair_list_write.specs.Select.{written_entries};
 ghost use Rattle.pair_list.specs.Pair.{pair};
@@ -80,18 +80,26 @@ pub fn relocate_pair_conflicts(sa: &[u8], ta: &[u8], sb: &[u8], tb: &[u8]) -> bo
     is_target_below(ta, sb) || equal_non_empty(sa, tb) || is_source_below(sa, sb)
 }
 
-// Returns whether pair i conflicts with another pair j, or has the same non-empty target. `first` is the
-// status of pair j before the search for conflicts: 0 if j is neither structural nor a duplicate.
+// Returns whether pair i, with the ends sa and ta, conflicts with another pair j, or has the same non-empty target.
+// `first` is the status of pair j before the search for conflicts: 0 if j is neither structural nor a duplicate.
 #[tactic(auto, using(crate::proofs::StatusBranches::conflicting))]
-fn conflicts_with(store: &[u8], places: &[usize], i: usize, j: usize, first: u8) -> bool
+fn conflicts_with(
+    store: &[u8],
+    places: &[usize],
+    i: usize,
+    sa: &[u8],
+    ta: &[u8],
+    j: usize,
+    first: u8,
+) -> bool
+    requires source_i { sa.now ≡ key_at store.now places.now false i }
+    requires target_i { ta.now ≡ key_at store.now places.now true i }
     ensures { result ≡ (not (eqb i j) && eqb first 0 && conflicts_with
         (pair_in store.now places.now i) (pair_in store.now places.now j)) }
 {
     if i == j || first != 0 {
         return false;
     }
-    let sa = pair_list::key_at(store, places, i, false);
-    let ta = pair_list::key_at(store, places, i, true);
     let sb = pair_list::key_at(store, places, j, false);
     let tb = pair_list::key_at(store, places, j, true);
     equal_non_empty(ta, tb) || relocate_pair_conflicts(sa, ta, sb, tb)
@@ -154,8 +162,10 @@ fn write_conflicts(store: &[u8], places: &[usize], n: usize, first: &[u8; 64], o
             out[i] = own;
             continue 'pairs;
         }
+        let source = pair_list::key_at(store, places, i, false);
+        let target = pair_list::key_at(store, places, i, true);
         for j in 0..n {
-            if conflicts_with(store, places, i, j, first[j]) {
+            if conflicts_with(store, places, i, source, target, j, first[j]) {
                 out[i] = u8::from(RelocateOccurrence::DroppedConflict);
                 continue 'pairs;
             }
